@@ -1,0 +1,9 @@
+pub mod Letters
+pub mod Stops
+pub mod Forms
+pub mod Padded
+pub mod Refuses
+pub mod Under
+pub mod NameOrder
+pub mod NameText
+pub mod formers

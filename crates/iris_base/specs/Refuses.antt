@@ -1,0 +1,10 @@
+-- Why a text was refused.
+use Rattle.std.specs.Prelude.{ℕ, List}
+use Rattle.iris_base.specs.declared.error.TextError.{TextError}
+use Rattle.iris_base.specs.declared.error.TextError.TheVariants.{BadText, Memory}
+use Rattle.iris_base.specs.Stops.{StopsAt}
+
+-- the error is just where the text goes off the form, and never want of memory
+abbrev pub Refuses : (List ℕ → Type 0) → List ℕ → TextError → Type 0
+Refuses P bytes (BadText at) = StopsAt P bytes at
+Refuses P bytes Memory = ⊥
