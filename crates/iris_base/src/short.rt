@@ -1,5 +1,11 @@
 //! Kinds, ids, tags and agents' ids: short texts, each of a form of its own.
-ghost use Rattle.std.specs.Prelude.{◌≡◌, ◌<◌, ◌≤◌, IfOk, OnOk, IfErr, Ok, Some};
+ghost use Rattle.std.specs.Prelude.{◌≡◌, ◌<◌, ◌≤◌, IfOk, OnOk, IfErr, Ok, Some, refl, nat_eq};
+ghost use Rattle.std.specs.Ordering.{nat_cmp};
+ghost use Rattle.std.specs.Cmp.Lexicographic.{pointwise, slice_cmp, nat_list_eq_equiv, nat_list_cmp_total, texts_ties, texts_po};
+ghost use Rattle.std.specs.Cmp.{partial_equiv_from_equiv};
+ghost use Rattle.std.specs.Cmp.Rules.{hashing};
+ghost use Rattle.std.specs.Hash as fed;
+ghost use Rattle.std.proofs.Common.{rules};
 ghost use Rattle.iris_base.specs.Forms.{IsWord};
 ghost use Rattle.iris_base.specs.Refuses.{Refuses};
 
@@ -7,7 +13,9 @@ use crate::error::TextError;
 use crate::letters::Form;
 use crate::memory::Mem;
 use crate::word::Word;
+use std::cmp::Ordering;
 use std::fmt;
+use std::hash::{Hash, Hasher};
 use std::marker::{Model, PhantomData};
 
 /// A type that stands for a form of short texts.
@@ -25,7 +33,7 @@ pub trait Spelled: Copy {
 
 /// A text of the form `F`, of at most `N` bytes, seen as the list of its bytes. It is compared byte by
 /// byte.
-#[derive(Clone, Copy, PartialEq, Eq, PartialOrd, Ord, Hash)]
+#[derive(Clone, Copy)]
 pub struct Short<F: Spelled, const N: usize> {
     word: Word<N>,
     form: PhantomData<F>,
@@ -113,8 +121,60 @@ impl<F: Spelled, const N: usize> fmt::Debug for Short<F, N> {
     }
 }
 
+impl<F: Spelled, const N: usize> PartialEq for Short<F, N> {
+    ghost eq = { pointwise nat_eq };
+
+    ghost laws = { partial_equiv_from_equiv nat_list_eq_equiv };
+
+    #[inline]
+    fn eq(&self, other: &Short<F, N>) -> bool {
+        self.as_str() == other.as_str()
+    }
+}
+
+impl<F: Spelled, const N: usize> Eq for Short<F, N> {
+    ghost laws = { nat_list_eq_equiv };
+}
+
+impl<F: Spelled, const N: usize> PartialOrd for Short<F, N> {
+    ghost partial_cmp = { λ x y. Some (slice_cmp nat_cmp x y) };
+
+    ghost laws = { texts_po };
+
+    #[inline]
+    fn partial_cmp(&self, other: &Short<F, N>) -> Option<Ordering> {
+        Some(self.cmp(other))
+    }
+}
+
+impl<F: Spelled, const N: usize> Ord for Short<F, N> {
+    ghost cmp = { slice_cmp nat_cmp };
+
+    ghost total = { nat_list_cmp_total };
+
+    ghost matches_partial_cmp = { λ x y. refl };
+
+    ghost matches_eq = { texts_ties };
+
+    #[inline]
+    fn cmp(&self, other: &Short<F, N>) -> Ordering {
+        self.as_str().cmp(other.as_str())
+    }
+}
+
+impl<F: Spelled, const N: usize> Hash for Short<F, N> {
+    ghost hash_input = { fed.str };
+
+    ghost respects_eq = { Prim.search (hashing, rules) };
+
+    #[inline]
+    fn hash<H: Hasher>(&self, state: &mut H) {
+        self.as_str().hash(state);
+    }
+}
+
 /// The form of kinds.
-#[derive(Clone, Copy, Debug, PartialEq, Eq, PartialOrd, Ord, Hash)]
+#[derive(Clone, Copy, Debug)]
 pub struct KindForm;
 
 impl Spelled for KindForm {
@@ -134,7 +194,7 @@ impl Spelled for KindForm {
 pub type Kind = Short<KindForm, 16>;
 
 /// The form of ids.
-#[derive(Clone, Copy, Debug, PartialEq, Eq, PartialOrd, Ord, Hash)]
+#[derive(Clone, Copy, Debug)]
 pub struct IdForm;
 
 impl Spelled for IdForm {
@@ -154,7 +214,7 @@ impl Spelled for IdForm {
 pub type Id = Short<IdForm, 24>;
 
 /// The form of tags.
-#[derive(Clone, Copy, Debug, PartialEq, Eq, PartialOrd, Ord, Hash)]
+#[derive(Clone, Copy, Debug)]
 pub struct TagForm;
 
 impl Spelled for TagForm {
@@ -175,7 +235,7 @@ impl Spelled for TagForm {
 pub type Tag = Short<TagForm, 24>;
 
 /// The form of agents' ids.
-#[derive(Clone, Copy, Debug, PartialEq, Eq, PartialOrd, Ord, Hash)]
+#[derive(Clone, Copy, Debug)]
 pub struct AgentForm;
 
 impl Spelled for AgentForm {

@@ -1,19 +1,11 @@
 //! ASCII texts of bounded length that lie in the value itself, with no allocation.
-ghost use Rattle.std.specs.Prelude.{◌≡◌, ◌<◌, ◌≤◌, length, Some, refl, nat_eq, IfOk, OnOk, IfErr};
-ghost use Rattle.std.specs.Ordering.{nat_cmp};
-ghost use Rattle.std.specs.Cmp.Lexicographic.{pointwise, slice_cmp, nat_list_eq_equiv, nat_list_cmp_total, texts_ties, texts_po};
-ghost use Rattle.std.specs.Cmp.{partial_equiv_from_equiv};
-ghost use Rattle.std.specs.Cmp.Rules.{hashing};
-ghost use Rattle.std.specs.Hash as fed;
+ghost use Rattle.std.specs.Prelude.{◌≡◌, ◌<◌, ◌≤◌, length, IfOk, OnOk, IfErr};
 ghost use Rattle.std.specs.Str.{IsAscii};
-ghost use Rattle.std.proofs.Common.{rules};
 ghost use Rattle.iris_base.specs.Forms.{IsWord};
 ghost use Rattle.iris_base.specs.Refuses.{Refuses};
 
 use crate::error::TextError;
 use crate::letters::Form;
-use std::cmp::Ordering;
-use std::hash::{Hash, Hasher};
 use std::marker::Model;
 use std::str;
 
@@ -84,57 +76,5 @@ impl<const N: usize> Word<N> {
         ensures { result.now ≡ self.now }
     {
         unsafe { str::from_utf8_unchecked(self.as_bytes()) }
-    }
-}
-
-impl<const N: usize> PartialEq for Word<N> {
-    ghost eq = { pointwise nat_eq };
-
-    ghost laws = { partial_equiv_from_equiv nat_list_eq_equiv };
-
-    #[inline]
-    fn eq(&self, other: &Word<N>) -> bool {
-        self.as_str() == other.as_str()
-    }
-}
-
-impl<const N: usize> Eq for Word<N> {
-    ghost laws = { nat_list_eq_equiv };
-}
-
-impl<const N: usize> PartialOrd for Word<N> {
-    ghost partial_cmp = { λ x y. Some (slice_cmp nat_cmp x y) };
-
-    ghost laws = { texts_po };
-
-    #[inline]
-    fn partial_cmp(&self, other: &Word<N>) -> Option<Ordering> {
-        Some(self.cmp(other))
-    }
-}
-
-impl<const N: usize> Ord for Word<N> {
-    ghost cmp = { slice_cmp nat_cmp };
-
-    ghost total = { nat_list_cmp_total };
-
-    ghost matches_partial_cmp = { λ x y. refl };
-
-    ghost matches_eq = { texts_ties };
-
-    #[inline]
-    fn cmp(&self, other: &Word<N>) -> Ordering {
-        self.as_str().cmp(other.as_str())
-    }
-}
-
-impl<const N: usize> Hash for Word<N> {
-    ghost hash_input = { fed.str };
-
-    ghost respects_eq = { Prim.search (hashing, rules) };
-
-    #[inline]
-    fn hash<H: Hasher>(&self, state: &mut H) {
-        self.as_str().hash(state);
     }
 }
