@@ -1,0 +1,2 @@
+pub mod AttrLookups
+pub mod Siblings

@@ -1,0 +1,3 @@
+pub mod Attrs
+pub mod Universe
+pub mod NodeCode

@@ -1,0 +1,43 @@
+//! What a node holds itself.
+ghost use Rattle.std.specs.Prelude.{◌≡◌, [], IfOk};
+
+use crate::attrs::Attrs;
+use crate::plain::Plain;
+use iris_base::{Mem, Sequence};
+use std::alloc::Global;
+
+/// A node's local information: its attributes and its plain elements. The labels of its children
+/// belong to it too and are told by the tree.
+#[derive(Debug, Drop)]
+pub struct Local {
+    pub attrs: Attrs,
+    /// The plain elements right below the node, in the order in which they are written.
+    pub plain: Sequence<Plain>,
+}
+
+impl Local {
+    /// No attributes and no plain elements. It takes no memory.
+    pub fn new(alloc: Global) -> Local
+        ensures attrs { result.attrs ≡ [] }
+        ensures plain { result.plain ≡ [] }
+    {
+        Local {
+            attrs: Attrs::new(alloc),
+            plain: Sequence::new(alloc),
+        }
+    }
+
+    /// A copy, by the same allocator.
+    pub fn copy(&self) -> Mem<Local>
+        ensures { IfOk result (λ copy. copy ≡ self.now) }
+    {
+        let mut plain = Sequence::new(self.plain.allocator());
+        for element in self.plain.as_slice() {
+            plain.push(element.copy()?)?;
+        }
+        Ok(Local {
+            attrs: self.attrs.copy()?,
+            plain,
+        })
+    }
+}

@@ -1,0 +1,166 @@
+//! Nodes with all nodes below them.
+ghost use Rattle.std.specs.Prelude.{◌≡◌, ◌↔◌, ◌<◌, ◌≤◌, Some, None, IsSome, IfOk, IfErr, OnOk, OnErr, IsErrOf, length, option_copied, slice_index_or};
+ghost use Rattle.std.specs.List.Sorted.{IsStrictlySortedBy};
+ghost use Rattle.iris_base.specs.NameOrder.{label_cmp};
+ghost use Rattle.iris_tree.specs.declared.tree.InsertError.TheVariants as errors;
+ghost use Rattle.iris_tree.specs.Universe.{Node, node, no_nodes, labels_of, IsGap, label_of, local_of, children_of, child_of, node_at, with_child};
+
+use crate::local::Local;
+use iris_base::{Label, Mem, Memory, Name};
+use std::alloc::{AllocError, AllocFailed, Global};
+use std::error::Error;
+use std::fmt;
+use std::marker::Model;
+
+/// Why a child was not added.
+#[derive(Clone, Copy, Debug, PartialEq, Eq)]
+pub enum InsertError {
+    /// The node has a child with this label.
+    Twin,
+    /// There was no memory.
+    Memory,
+}
+
+impl fmt::Display for InsertError {
+    fn fmt<W: fmt::Write>(&self, f: &mut fmt::Formatter<W>) -> fmt::Result {
+        match self {
+            InsertError::Twin => f.write_str("the node has a child with this label"),
+            InsertError::Memory => f.write_str("out of memory"),
+        }
+    }
+}
+
+impl Error for InsertError {}
+
+/// A node with all nodes below it. The children of each node stand in the order of their labels, and no
+/// two of them have the same label. Contracts see it as a `Node` of `specs/Universe.antt`.
+#[derive(Debug, Drop)]
+pub struct Tree {
+    label: Label,
+    local: Local,
+    nodes: Vec<Tree>,
+}
+
+impl Model for Tree {
+    ghost use Rattle.std.specs.List.Sorted.{IsStrictlySortedBy};
+    ghost use Rattle.std.proofs.Common.{arith};
+    ghost use Rattle.iris_base.specs.NameOrder.{label_cmp};
+    ghost use Rattle.iris_base.specs.contracts.name.Label as label_type;
+    ghost use Rattle.iris_tree.specs.contracts.local.Local as local_type;
+    ghost use Rattle.iris_tree.specs.Universe.{Node, node, nodes_of, labels_of};
+    ghost use Rattle.iris_tree.specs.NodeCode.{node_code, size_of, sizes-nodes_of};
+
+    ghost Value = { Node };
+
+    ghost coded = { node_code label_type.the_row.coded local_type.the_row.coded };
+
+    ghost view = { λ t. node t.label t.local (nodes_of t.nodes.items) };
+
+    ghost invariant = { λ t. IsStrictlySortedBy label_cmp (labels_of t.nodes.items) };
+
+    ghost size = { size_of };
+
+    ghost size_decreases = { λ t h. Prim.omega (arith, sizes-nodes_of t.nodes.items) };
+}
+
+// Where the node with that label stands among siblings, or where it would be put.
+fn search(siblings: &[Tree], label: &Label) -> Result<usize, usize>
+    requires { IsStrictlySortedBy label_cmp (labels_of siblings.now) }
+    ensures found { IfOk result (λ at. (at < length siblings.now) × ((d : Node) → child_of label.now siblings.now ≡ Some (slice_index_or siblings.now at d))) }
+    ensures absent { IfErr result (λ at. (at ≤ length siblings.now) × (child_of label.now siblings.now ≡ None) × IsGap siblings.now label.now at) }
+{
+    siblings.binary_search_by_key(label, |node| *node.label())
+}
+
+impl Tree {
+    /// A node without children. It takes no memory.
+    pub fn new(alloc: Global, label: Label, local: Local) -> Tree
+        ensures { result ≡ node label local no_nodes }
+    {
+        Tree {
+            label,
+            local,
+            nodes: Vec::new(alloc),
+        }
+    }
+
+    /// What the node is called among its siblings.
+    #[inline]
+    pub fn label(&self) -> &Label
+        ensures { result.now ≡ label_of self.now }
+    {
+        &self.label
+    }
+
+    /// What the node holds itself.
+    #[inline]
+    pub fn local(&self) -> &Local
+        ensures { result.now ≡ local_of self.now }
+    {
+        &self.local
+    }
+
+    /// The nodes right below, in the order of their labels.
+    #[inline]
+    pub fn children(&self) -> &[Tree]
+        ensures { result.now ≡ children_of self.now }
+    {
+        self.nodes.as_slice()
+    }
+
+    /// The child with that label, by a binary search.
+    pub fn child(&self, label: &Label) -> Option<&Tree>
+        ensures { option_copied result ≡ child_of label.now (children_of self.now) }
+    {
+        match search(&self.nodes, label) {
+            Ok(at) => Some(&self.nodes[at]),
+            Err(_) => None,
+        }
+    }
+
+    /// Adds a child at its place in the order of labels. The child is dropped at an error.
+    pub fn insert(&mut self, child: Tree) -> Result<(), InsertError>
+        ensures ok { OnOk result (self.new ≡ with_child self.old child) }
+        ensures err { OnErr result (self.new ≡ self.old) }
+        ensures twin { IsErrOf result errors.Twin ↔ (IsSome (child_of (label_of child) (children_of self.old))) }
+    {
+        let Err(at) = search(&self.nodes, child.label()) else {
+            return Err(InsertError::Twin);
+        };
+        if self.nodes.insert(at, child).is_err() {
+            return Err(InsertError::Memory);
+        }
+        Ok(())
+    }
+
+    /// The part at that name, whose first label is that of this node; none exactly where no such node
+    /// is. No part is at the document's name.
+    pub fn find(&self, name: &Name) -> Option<&Tree>
+        ensures { option_copied result ≡ node_at self.now name.now }
+    {
+        let (top, below) = name.as_slice().split_first()?;
+        if self.label != *top {
+            return None;
+        }
+        let mut node = self;
+        for label in below {
+            node = node.child(label)?;
+        }
+        Some(node)
+    }
+
+    /// A copy, by the same allocator.
+    pub fn copy(&self) -> Mem<Tree>
+        ensures { IfOk result (λ copy. copy ≡ self.now) }
+    {
+        let mut nodes = Vec::with_capacity(*self.nodes.allocator(), self.nodes.len())?;
+        for node in &self.nodes {
+            nodes.push(node.copy()?)?;
+        }
+        Ok(Tree {
+            label: self.label,
+            local: self.local.copy()?,
+            nodes,
+        })
+    }
+}
