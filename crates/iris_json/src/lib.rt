@@ -1,0 +1,16 @@
+//! The lines of a script, read, and the lines of its run, written, as JSON (RFC 8259).
+#![tactic(auto)]
+
+mod city;
+mod item;
+mod keys;
+mod line;
+mod node;
+mod out;
+#[cfg(test)]
+mod tests;
+
+pub use city::{City, CityError, CityWhy, read_city};
+pub use item::{Element, Item, write_items, write_tree};
+pub use line::{Line, LineError, LineWhy, read_line};
+pub use out::{Cite, Out, Which, Why, write_out};

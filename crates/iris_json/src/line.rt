@@ -1,0 +1,78 @@
+//! The lines of a script after the first.
+ghost use Rattle.std.specs.Prelude.{◌≡◌};
+
+use crate::keys::{Members, has_only, text_at};
+use iris_tree::{Text, TextError};
+use serde_json::Value;
+use std::alloc::Global;
+use std::error::Error;
+use std::fmt;
+
+/// A line of a script after the first.
+#[derive(Debug, Drop)]
+pub enum Line {
+    /// A query is posted.
+    Query { query: Text },
+    /// All that is posted is delivered.
+    Settle,
+}
+
+/// What is wrong with a line.
+#[derive(Clone, Copy, Debug, PartialEq, Eq)]
+pub enum LineWhy {
+    /// The line is no JSON, or not of the form of any line.
+    Shape,
+}
+
+/// Why no line was read.
+#[derive(Clone, Copy, Debug, PartialEq, Eq)]
+pub enum LineError {
+    /// The line is none of the forms.
+    BadLine { why: LineWhy },
+    /// There was no memory.
+    Memory,
+}
+
+const SHAPE: LineError = LineError::BadLine {
+    why: LineWhy::Shape,
+};
+
+impl fmt::Display for LineError {
+    fn fmt<W: fmt::Write>(&self, f: &mut fmt::Formatter<W>) -> fmt::Result {
+        match self {
+            LineError::BadLine { .. } => f.write_str("the line is no line of a script"),
+            LineError::Memory => f.write_str("out of memory"),
+        }
+    }
+}
+
+impl Error for LineError {}
+
+// The line that an object is.
+fn line_of(alloc: Global, object: &Members) -> Result<Line, LineError> {
+    match text_at(object, "do") {
+        Some("query") if has_only(object, &["do", "query"]) => {
+            let Some(query) = text_at(object, "query") else {
+                return Err(SHAPE);
+            };
+            match Text::new(alloc, query) {
+                Ok(query) => Ok(Line::Query { query }),
+                Err(_) => Err(LineError::Memory),
+            }
+        }
+        Some("settle") if has_only(object, &["do"]) => Ok(Line::Settle),
+        _ => Err(SHAPE),
+    }
+}
+
+/// Reads a line of a script after the first, without its LF: an object with the key `do`, which is
+/// `query` with the text `query`, or `settle`, and no other key. Otherwise, and where the bytes are no
+/// JSON, it is `BadLine`.
+pub fn read_line(alloc: Global, bytes: &[u8]) -> Result<Line, LineError> {
+    match Value::from_slice(alloc, bytes) {
+        Ok(Value::Object(object)) => line_of(alloc, &object),
+        Ok(_) => Err(SHAPE),
+        Err(error) if error.is_memory() => Err(LineError::Memory),
+        Err(_) => Err(SHAPE),
+    }
+}
