@@ -1,0 +1,4 @@
+pub mod Follows
+pub mod Gives
+pub mod Grammar
+pub mod Syntax
