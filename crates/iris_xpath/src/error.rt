@@ -15,6 +15,11 @@ pub enum QueryError {
 }
 
 impl fmt::Display for QueryError {
+    ghost use Rattle.std.specs.Prelude.{Some};
+    ghost use Rattle.iris_xpath.specs.Message.{message};
+
+    ghost output = { λ error. Some (message error) };
+
     fn fmt<W: fmt::Write>(&self, f: &mut fmt::Formatter<W>) -> fmt::Result {
         match self {
             QueryError::Later => f.write_str("the text is no query of the thin form"),
