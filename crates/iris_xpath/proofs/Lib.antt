@@ -1,0 +1,5 @@
+pub mod Pieces
+pub mod Predicates
+pub mod Results
+pub mod Steps
+pub mod Words

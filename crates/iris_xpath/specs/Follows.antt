@@ -1,0 +1,18 @@
+-- What may follow a word, the predicates of a step, and a step.
+use Rattle.std.specs.Prelude.{◌≡◌, ◌≢◌, ℕ, false, List, [], ◌∷◌}
+use Rattle.iris_xpath.specs.Grammar.{is_word_byte}
+
+-- a text that does not go on with a byte of a word
+abbrev pub EndsWord : List ℕ → Type 0
+EndsWord [] = Unit {0}
+EndsWord (b ∷ bs) = is_word_byte b ≡ false
+
+-- a text that does not begin with `[`
+abbrev pub EndsPredicates : List ℕ → Type 0
+EndsPredicates [] = Unit {0}
+EndsPredicates (b ∷ bs) = b ≢ 91
+
+-- a text that is empty or begins with `/`
+abbrev pub EndsStep : List ℕ → Type 0
+EndsStep [] = Unit {0}
+EndsStep (b ∷ bs) = b ≡ 47

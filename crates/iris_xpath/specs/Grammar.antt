@@ -1,0 +1,59 @@
+-- The thin query language, as a relation between whole texts and queries, and its limits.
+use Rattle.std.specs.Prelude.{◌≡◌, ◌≢◌, ℕ, ◌*◌, ◌<◌, ◌≤◌, Bool, true, ◌&&◌, ◌||◌, ◌==◌, length, slice_index, nat_le, List, [], ◌∷◌, ◌++◌, codes, Contains}
+use Rattle.std.specs.List.{AllByRecursion, sum_by}
+use Rattle.iris_xpath.specs.Syntax.{Equals, Main, Syntax}
+
+-- whether a byte is an ASCII letter
+abbrev pub is_letter : ℕ → Bool
+is_letter b = (nat_le 97 b && nat_le b 122) || (nat_le 65 b && nat_le b 90)
+
+-- whether a byte may stand in a word: a letter, a digit, `_` or `-`
+abbrev pub is_word_byte : ℕ → Bool
+is_word_byte b = is_letter b || (nat_le 48 b && nat_le b 57) || (b == 95) || (b == 45)
+
+-- a byte that may stand in a word
+abbrev pub IsWordByte : ℕ → Type 0
+IsWordByte b = is_word_byte b ≡ true
+
+-- a letter, and then bytes that may stand in a word
+abbrev pub IsWord : List ℕ → Type 0
+IsWord [] = ⊥
+IsWord (b ∷ bs) = (is_letter b ≡ true) × AllByRecursion IsWordByte bs
+
+-- a text in which no byte is `'`
+abbrev pub HasNoQuote : List ℕ → Type 0
+HasNoQuote bs = (i : ℕ) → i < length bs → slice_index bs i ≢ 39
+
+-- the text of a predicate is `[@`, its name, `='`, its value and `']`
+pub record ReadsPredicate (text : List ℕ) (p : Equals) : Type 0 where
+  pub spelled : text ≡ codes "[@" ++ p.name ++ codes "='" ++ p.value ++ codes "']"
+  pub name : IsWord p.name
+  pub value : HasNoQuote p.value
+
+-- the text is one piece after another, each of which reads as one of the values
+abbrev pub ReadsAll : {X : Type 0} → (List ℕ → X → Type 0) → List ℕ → List X → Type 0
+ReadsAll ReadsOne text [] = text ≡ []
+ReadsAll ReadsOne text (x ∷ xs) =
+    (front : List ℕ) × (back : List ℕ) × (text ≡ front ++ back) × ReadsOne front x × ReadsAll ReadsOne back xs
+
+-- the text of a step is `/`, one of the kinds, which is a word, and its predicates
+pub record ReadsMain (kinds : List (List ℕ)) (text : List ℕ) (s : Main) : Type 0 where
+  pub rest : List ℕ
+  pub spelled : text ≡ 47 ∷ s.kind ++ rest
+  pub word : IsWord s.kind
+  pub kind : Contains kinds s.kind
+  pub predicates : ReadsAll ReadsPredicate rest s.predicates
+
+-- the text of a query is that of its steps, of which there is at least one
+abbrev pub Reads : List (List ℕ) → List ℕ → Syntax → Type 0
+Reads kinds text q = (q ≢ []) × ReadsAll (ReadsMain kinds) text q
+
+-- how many operands a query has: each predicate compares two
+abbrev pub operands_of : Syntax → ℕ
+operands_of q = sum_by (λ s. 2 * length s.predicates) q
+
+-- a text and its query pass no limit
+pub record Within (text : List ℕ) (q : Syntax) : Type 0 where
+  pub bytes : length text ≤ 4096
+  pub steps : length q ≤ 32
+  pub operands : operands_of q ≤ 64

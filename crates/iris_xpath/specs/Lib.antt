@@ -1,0 +1,5 @@
+pub mod Follows
+pub mod Gives
+pub mod Grammar
+pub mod Message
+pub mod Syntax

@@ -1,0 +1,12 @@
+//! The thin query language: steps of the main path with predicates on attributes, and their parser.
+#![tactic(auto)]
+
+mod error;
+mod parser;
+mod query;
+#[cfg(test)]
+mod tests;
+
+pub use error::QueryError;
+pub use parser::parse;
+pub use query::{Predicate, Query, Step};

@@ -1,0 +1,212 @@
+//! Reads a query of the thin form from its text.
+ghost use Rattle.std.specs.Prelude.{◌≡◌, ◌≢◌, ℕ, ◌≤◌, ◌++◌, ◌∷◌, List, IfOk, IfSome, IfNone, MatchOption, IsTrue, ◌↔◌, ◌==◌, Contains, take, drop, slice_index};
+ghost use Rattle.std.specs.List.{AllByRecursion};
+ghost use Rattle.std.specs.Str.{IsCharBoundary};
+ghost use Rattle.iris_xpath.specs.Syntax.{Equals, Main, Syntax};
+ghost use Rattle.iris_xpath.specs.Grammar.{is_letter, is_word_byte, IsWordByte, IsWord, HasNoQuote, ReadsPredicate, ReadsAll, ReadsMain, Reads, operands_of, Within};
+ghost use Rattle.iris_xpath.specs.Follows.{EndsWord, EndsPredicates, EndsStep};
+ghost use Rattle.iris_xpath.specs.Gives.{Gives, GivesFront};
+
+use crate::error::QueryError;
+use crate::query::{Predicate, Query, Step};
+use iris_base::{Kind, Sequence};
+use std::alloc::Global;
+
+/// The greatest length of a query's text, in bytes.
+const MAX_BYTES: usize = 4_096;
+
+/// The greatest number of steps.
+const MAX_STEPS: usize = 32;
+
+/// The greatest number of operands in all predicates together. A comparison has two.
+const MAX_OPERANDS: usize = 64;
+
+/// Reads a query of the thin form of XPath 1.0 (sections 2 and 2.1, abbreviated syntax): one step or
+/// more, each `/`, one of the `kinds`, and any number of predicates `[@name='value']`, with no blank
+/// between them. A name is an ASCII letter and then letters, digits, `_` and `-`, as long as it can be;
+/// a value is any text without `'`.
+///
+/// `Later` comes exactly where the text is not of this form, or is longer than 4,096 bytes, or has more
+/// than 32 steps or more than 64 operands, two for each predicate.
+pub fn parse(alloc: Global, text: &str, kinds: &[Kind]) -> Result<Query, QueryError>
+    ensures found { IfOk result (λ q. Reads kinds.now text.now q × Within text.now q) }
+    ensures only { (q : Syntax) → Reads kinds.now text.now q → Within text.now q → Gives result q }
+{
+    if text.len() > MAX_BYTES {
+        return Err(QueryError::Later);
+    }
+    let steps = read_steps(alloc, kinds, text)?;
+    if steps.is_empty() || steps.len() > MAX_STEPS || !has_few_operands(steps.as_slice()) {
+        return Err(QueryError::Later);
+    }
+    Ok(Query::new(steps))
+}
+
+/// Whether the predicates of all the steps have no more than `MAX_OPERANDS` operands.
+fn has_few_operands(steps: &[Step]) -> bool
+    ensures { IsTrue result ↔ (operands_of steps.now ≤ 64) }
+{
+    let mut room = MAX_OPERANDS / 2;
+    for step in steps {
+        match room.checked_sub(step.predicates().len()) {
+            Some(left) => room = left,
+            None => return false,
+        }
+    }
+    true
+}
+
+/// The steps that the whole text is.
+fn read_steps(alloc: Global, kinds: &[Kind], text: &str) -> Result<Sequence<Step>, QueryError>
+    ensures found { IfOk result (λ steps. ReadsAll (ReadsMain kinds.now) text.now steps) }
+    ensures only { (q : Syntax) → ReadsAll (ReadsMain kinds.now) text.now q → Gives result q }
+{
+    let mut steps = Sequence::new(alloc);
+    let mut rest = text;
+    'steps: while !rest.is_empty() {
+        let (step, after) = read_step(alloc, kinds, rest)?;
+        steps.push(step)?;
+        rest = after;
+    }
+    Ok(steps)
+}
+
+/// The step at the front, and what follows it.
+fn read_step<'a>(
+    alloc: Global,
+    kinds: &[Kind],
+    text: &'a str,
+) -> Result<(Step, &'a str), QueryError>
+    ensures found { IfOk result (λ r. (front : List ℕ) × (text.now ≡ front ++ r.1.now) × ReadsMain kinds.now front r.0) }
+    ensures only { (front z : List ℕ) (s : Main) → ReadsMain kinds.now front s → EndsStep z → text.now ≡ front ++ z → GivesFront result s z }
+{
+    let Some(rest) = strip_front(text, "/") else {
+        return Err(QueryError::Later);
+    };
+    let Some((word, rest)) = split_word(rest) else {
+        return Err(QueryError::Later);
+    };
+    let Some(kind) = find_kind(kinds, word) else {
+        return Err(QueryError::Later);
+    };
+    let (predicates, rest) = read_predicates(alloc, rest)?;
+    Ok((Step::new(kind, predicates), rest))
+}
+
+/// The kind of that name.
+fn find_kind(kinds: &[Kind], name: &str) -> Option<Kind>
+    ensures { MatchOption result (Contains kinds.now name.now → ⊥) (λ kind. (kind ≡ name.now) × Contains kinds.now name.now) }
+{
+    for kind in kinds {
+        if kind.as_str() == name {
+            return Some(*kind);
+        }
+    }
+    None
+}
+
+/// The predicates at the front, and what follows them.
+fn read_predicates(alloc: Global, text: &str) -> Result<(Sequence<Predicate>, &str), QueryError>
+    ensures found { IfOk result (λ r. (front : List ℕ) × (text.now ≡ front ++ r.1.now) × ReadsAll ReadsPredicate front r.0) }
+    ensures only { (front z : List ℕ) (ps : List Equals) → ReadsAll ReadsPredicate front ps → EndsPredicates z → text.now ≡ front ++ z → GivesFront result ps z }
+{
+    let mut predicates = Sequence::new(alloc);
+    let mut rest = text;
+    'predicates: while begins_predicate(rest) {
+        let (predicate, after) = read_predicate(alloc, rest)?;
+        predicates.push(predicate)?;
+        rest = after;
+    }
+    Ok((predicates, rest))
+}
+
+/// Whether the text goes on as a predicate does.
+fn begins_predicate(text: &str) -> bool
+    ensures { result ≡ (slice_index text.now 0 == 91) }
+{
+    text.as_bytes().first() == Some(&b'[')
+}
+
+/// The predicate at the front, and what follows it.
+fn read_predicate(alloc: Global, text: &str) -> Result<(Predicate, &str), QueryError>
+    ensures found { IfOk result (λ r. (front : List ℕ) × (text.now ≡ front ++ r.1.now) × ReadsPredicate front r.0) }
+    ensures only { (front z : List ℕ) (p : Equals) → ReadsPredicate front p → text.now ≡ front ++ z → GivesFront result p z }
+{
+    let Some(rest) = strip_front(text, "[@") else {
+        return Err(QueryError::Later);
+    };
+    let Some((name, rest)) = split_word(rest) else {
+        return Err(QueryError::Later);
+    };
+    let Some(rest) = strip_front(rest, "='") else {
+        return Err(QueryError::Later);
+    };
+    let Some((value, rest)) = split_quote(rest) else {
+        return Err(QueryError::Later);
+    };
+    let Some(rest) = strip_front(rest, "]") else {
+        return Err(QueryError::Later);
+    };
+    Ok((Predicate::new(alloc, name, value)?, rest))
+}
+
+/// What follows `front`, where the text begins with it.
+fn strip_front<'a>(text: &'a str, front: &str) -> Option<&'a str>
+    ensures { MatchOption result ((z : List ℕ) → text.now ≢ front.now ++ z) (λ r. text.now ≡ front.now ++ r.now) }
+{
+    text.strip_prefix(front)
+}
+
+/// What stands before the first quote, and what follows it.
+fn split_quote(text: &str) -> Option<(&str, &str)>
+    ensures found { MatchOption result (HasNoQuote text.now) (λ r. (text.now ≡ r.0.now ++ 39 ∷ r.1.now) × HasNoQuote r.0.now) }
+    ensures only { (v z : List ℕ) → HasNoQuote v → text.now ≡ v ++ 39 ∷ z → MatchOption result ⊥ (λ r. (r.0.now ≡ v) × (r.1.now ≡ z)) }
+{
+    text.split_once('\'')
+}
+
+/// The longest word at the front, and what follows it.
+#[tactic(auto, using(crate::proofs::Words::word_found, crate::proofs::Words::word_none))]
+fn split_word(text: &str) -> Option<(&str, &str)>
+    ensures found { IfSome result (λ r. (text.now ≡ r.0.now ++ r.1.now) × IsWord r.0.now × EndsWord r.1.now) }
+    ensures none { IfNone result ((w z : List ℕ) → IsWord w → text.now ≢ w ++ z) }
+{
+    if !begins_word(text) {
+        return None;
+    }
+    let end = word_len(text);
+    Some((&text[..end], &text[end..]))
+}
+
+/// Whether the text begins with a letter.
+fn begins_word(text: &str) -> bool
+    ensures { result ≡ is_letter (slice_index text.now 0) }
+{
+    match text.as_bytes() {
+        [first, ..] => first.is_ascii_alphabetic(),
+        [] => false,
+    }
+}
+
+/// How many bytes at the front may stand in a word.
+#[tactic(auto, using(crate::proofs::Words::word_boundary))]
+fn word_len(text: &str) -> usize
+    ensures boundary { IsCharBoundary text.now result }
+    ensures run { AllByRecursion IsWordByte (take result text.now) }
+    ensures ends { EndsWord (drop result text.now) }
+{
+    let bytes = text.as_bytes();
+    for (i, byte) in bytes.iter().enumerate() {
+        if !may_stand_in_word(*byte) {
+            return i;
+        }
+    }
+    bytes.len()
+}
+
+/// Whether the byte is an ASCII letter or digit, `_` or `-`.
+fn may_stand_in_word(byte: u8) -> bool
+    ensures { result ≡ is_word_byte byte }
+{
+    byte.is_ascii_alphabetic() || byte.is_ascii_digit() || byte == b'_' || byte == b'-'
+}
