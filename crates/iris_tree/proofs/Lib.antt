@@ -1,2 +1,4 @@
 pub mod AttrLookups
+pub mod Counted
 pub mod Siblings
+pub mod Texts

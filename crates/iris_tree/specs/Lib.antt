@@ -1,3 +1,5 @@
 pub mod Attrs
-pub mod Universe
+pub mod LocalText
 pub mod NodeCode
+pub mod TextLen
+pub mod Universe

@@ -2,15 +2,22 @@
 #![tactic(auto)]
 
 mod attrs;
+mod count;
+mod counter;
+mod json_text;
 mod local;
 mod plain;
+#[cfg(test)]
+mod tests;
 mod tree;
+mod write;
 
 pub use attrs::Attrs;
 pub use iris_base::{
     AgentForm, AgentId, Form, Id, IdForm, Kind, KindForm, Label, Letters, Mem, Memory, Name,
     Sequence, Short, Spelled, Tag, TagForm, Text, TextError, name_text,
 };
+pub use json_text::JsonText;
 pub use local::Local;
 pub use plain::Plain;
 pub use tree::{InsertError, Tree};

@@ -1,0 +1,85 @@
+//! Local information as JSON.
+ghost use Rattle.std.specs.Prelude.{◌≡◌, ◌++◌, flat_map, OnOk, IfOk};
+ghost use Rattle.iris_tree.specs.LocalText.{attrs_data, plain_data, local_data, local_text, value_tokens, pair_tokens};
+
+use crate::attrs::Attrs;
+use crate::json_text::JsonText;
+use crate::local::Local;
+use crate::plain::Plain;
+use iris_base::Mem;
+
+impl Attrs {
+    /// Writes an object with a string for each attribute, in the order of the bytes of the names.
+    #[tactic(auto, using(crate::proofs::Texts::attrs_written, std::proofs::lemmas::List::append_assoc))]
+    pub fn write(&self, out: &mut JsonText) -> Mem<()>
+        ensures { OnOk result (out.new ≡ out.old ++ value_tokens (attrs_data self.now)) }
+    {
+        out.begin_object()?;
+        self.write_members(out)?;
+        out.end_object()?;
+        Ok(())
+    }
+
+    fn write_members(&self, out: &mut JsonText) -> Mem<()>
+        ensures { OnOk result (out.new ≡ out.old ++ flat_map pair_tokens self.now) }
+    {
+        for (name, value) in self.as_map() {
+            out.key(name.as_str())?;
+            out.string(value.as_str())?;
+        }
+        Ok(())
+    }
+}
+
+impl Plain {
+    /// Writes an object with the keys `attrs`, `kids` (an array of such objects), `tag` and `text`, in
+    /// this order.
+    pub fn write(&self, out: &mut JsonText) -> Mem<()>
+        ensures { OnOk result (out.new ≡ out.old ++ value_tokens (plain_data self.now)) }
+    {
+        out.begin_object()?;
+        out.key("attrs")?;
+        self.attrs.write(out)?;
+        out.key("kids")?;
+        out.begin_array()?;
+        for kid in self.kids.as_slice() {
+            kid.write(out)?;
+        }
+        out.end_array()?;
+        out.key("tag")?;
+        out.string(self.tag.as_str())?;
+        out.key("text")?;
+        out.string(self.text.as_str())?;
+        out.end_object()?;
+        Ok(())
+    }
+}
+
+impl Local {
+    /// Writes an object with the keys `attrs` and `plain` (an array of plain elements), in this order.
+    pub fn write(&self, out: &mut JsonText) -> Mem<()>
+        ensures { OnOk result (out.new ≡ out.old ++ value_tokens (local_data self.now)) }
+    {
+        out.begin_object()?;
+        out.key("attrs")?;
+        self.attrs.write(out)?;
+        out.key("plain")?;
+        out.begin_array()?;
+        for element in self.plain.as_slice() {
+            element.write(out)?;
+        }
+        out.end_array()?;
+        out.end_object()?;
+        Ok(())
+    }
+
+    /// The JSON text, without spaces, by the same allocator. Equal local information has the same text.
+    #[tactic(auto, using(crate::proofs::Texts::printed))]
+    pub fn text(&self) -> Mem<Vec<u8>>
+        ensures { IfOk result (λ text. text.items ≡ local_text self.now) }
+    {
+        let mut out = JsonText::new(self.plain.allocator());
+        self.write(&mut out)?;
+        Ok(out.into_bytes())
+    }
+}
