@@ -1,7 +1,7 @@
 //! The city line: the first line of a script.
 ghost use Rattle.std.specs.Prelude.{◌≡◌};
 
-use crate::keys::{Members, has_only, list_at};
+use crate::keys::{Members, ValueError, has_only, list_at, read_value};
 use crate::node::{MOST_LABELS, MOST_NODES, read_node};
 use iris_tree::{AgentId, Kind, Memory, Name, Sequence, TextError, Tree, name_text};
 use serde_json::Value;
@@ -39,6 +39,15 @@ impl fmt::Display for CityError {
 }
 
 impl Error for CityError {}
+
+impl From<ValueError> for CityError {
+    fn from(error: ValueError) -> CityError {
+        match error {
+            ValueError::NotJson => SHAPE,
+            ValueError::Memory => CityError::Memory,
+        }
+    }
+}
 
 impl From<Memory> for CityError {
     fn from(_error: Memory) -> CityError {
@@ -82,6 +91,7 @@ pub struct City {
 
 /// The greatest length of a city line, without its LF.
 const MOST_BYTES: usize = 4_194_304;
+
 const MOST_KINDS: usize = 16;
 
 // The list of different kinds at the key `kinds`.
@@ -165,10 +175,9 @@ pub fn read_city(alloc: Global, bytes: &[u8]) -> Result<City, CityError> {
     if bytes.len() > MOST_BYTES {
         return Err(SHAPE);
     }
-    match Value::from_slice(alloc, bytes) {
-        Ok(Value::Object(object)) => city_of(alloc, &object),
-        Ok(_) => Err(SHAPE),
-        Err(error) if error.is_memory() => Err(CityError::Memory),
-        Err(_) => Err(SHAPE),
+    let value = read_value(alloc, bytes)?;
+    match value.as_object() {
+        Some(object) => city_of(alloc, object),
+        None => Err(SHAPE),
     }
 }

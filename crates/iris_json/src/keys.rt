@@ -2,6 +2,30 @@
 ghost use Rattle.std.specs.Prelude.{◌≡◌};
 
 use serde_json::{Map, Value};
+use std::alloc::Global;
+
+/// Why bytes gave no value.
+#[derive(Clone, Copy, Debug, PartialEq, Eq)]
+pub enum ValueError {
+    /// They are no JSON text.
+    NotJson,
+    /// There was no memory.
+    Memory,
+}
+
+/// The value of a JSON text.
+pub fn read_value(alloc: Global, bytes: &[u8]) -> Result<Value, ValueError> {
+    match Value::from_slice(alloc, bytes) {
+        Ok(value) => Ok(value),
+        Err(error) => {
+            if error.is_memory() {
+                Err(ValueError::Memory)
+            } else {
+                Err(ValueError::NotJson)
+            }
+        }
+    }
+}
 
 /// An object as `serde_json` reads it: each key once, the last value of equal keys.
 pub type Members = Map<String, Value>;

@@ -1,9 +1,8 @@
 //! The lines of a script after the first.
 ghost use Rattle.std.specs.Prelude.{◌≡◌};
 
-use crate::keys::{Members, has_only, text_at};
+use crate::keys::{Members, ValueError, has_only, read_value, text_at};
 use iris_tree::{Text, TextError};
-use serde_json::Value;
 use std::alloc::Global;
 use std::error::Error;
 use std::fmt;
@@ -48,6 +47,15 @@ impl fmt::Display for LineError {
 
 impl Error for LineError {}
 
+impl From<ValueError> for LineError {
+    fn from(error: ValueError) -> LineError {
+        match error {
+            ValueError::NotJson => SHAPE,
+            ValueError::Memory => LineError::Memory,
+        }
+    }
+}
+
 // The line that an object is.
 fn line_of(alloc: Global, object: &Members) -> Result<Line, LineError> {
     match text_at(object, "do") {
@@ -69,10 +77,9 @@ fn line_of(alloc: Global, object: &Members) -> Result<Line, LineError> {
 /// `query` with the text `query`, or `settle`, and no other key. Otherwise, and where the bytes are no
 /// JSON, it is `BadLine`.
 pub fn read_line(alloc: Global, bytes: &[u8]) -> Result<Line, LineError> {
-    match Value::from_slice(alloc, bytes) {
-        Ok(Value::Object(object)) => line_of(alloc, &object),
-        Ok(_) => Err(SHAPE),
-        Err(error) if error.is_memory() => Err(LineError::Memory),
-        Err(_) => Err(SHAPE),
+    let value = read_value(alloc, bytes)?;
+    match value.as_object() {
+        Some(object) => line_of(alloc, object),
+        None => Err(SHAPE),
     }
 }

@@ -9,8 +9,11 @@ use std::alloc::Global;
 pub const MOST_NODES: u32 = 20_000;
 /// The greatest number of labels of a name.
 pub const MOST_LABELS: u32 = 16;
+
 const MOST_CHILDREN: usize = 2_000;
+
 const MOST_ATTRS: usize = 64;
+
 const MOST_LOCAL_BYTES: u64 = 1_024;
 
 const SHAPE: CityError = CityError::BadCity {

@@ -73,11 +73,19 @@ pub enum Out {
         request: u64,
     },
     /// A settle made so many deliveries.
-    Settled { settled: u64 },
+    Settled {
+        settled: u64,
+    },
     /// The last line where a line of the script, counted from 1, is at fault.
-    Ended { line: u64, why: Why },
+    Ended {
+        line: u64,
+        why: Why,
+    },
     /// The last line where a limit is passed.
-    Limit { count: u64, which: Which },
+    Limit {
+        count: u64,
+        which: Which,
+    },
 }
 
 fn put_query(post: u64, request: u64, to: &AgentId, out: &mut JsonText) -> Mem<()> {

@@ -1,4 +1,5 @@
 pub mod Attrs
+pub mod Document
 pub mod LocalText
 pub mod NodeCode
 pub mod TextLen

@@ -1,12 +1,12 @@
 -- How proofs store a node, and how large it is.
-use Rattle.std.specs.Prelude.{◌≡◌, ℕ, ◌+◌, ◌≤◌, suc, List, [], ◌∷◌, ◌++◌, length, take, drop, refl}
+use Rattle.std.specs.Prelude.{◌≡◌, ℕ, ◌+◌, ◌≤◌, ◌<◌, zero, suc, slice_index_or, List, [], ◌∷◌, ◌++◌, length, take, drop, refl}
 use Rattle.std.specs.Coded.{Coded, code_by, coded×, coded_ℕ, coded_list}
-use Rattle.std.proofs.Common.{arith, ap, ◌∙◌, append_assoc, append-nil}
+use Rattle.std.proofs.Common.{arith, ap, subst, ◌∙◌, append_assoc, append-nil}
 use Rattle.std.proofs.Math.Seq.{take-append_seam, drop-append_seam}
 use denote.Param.Weighed.{most}
 use Rattle.iris_base.specs.declared.name.Label.{Label}
 use Rattle.iris_tree.specs.declared.local.Local.{Local}
-use Rattle.iris_tree.specs.Universe.{Node, node, Nodes, no_nodes, nodes, nodes_of, list_of}
+use Rattle.iris_tree.specs.Universe.{Node, node, Nodes, no_nodes, nodes, nodes_of, list_of, children_of}
 
 -- a node as the list of all its nodes, parents first, each with how many are right below it
 abbrev pub Row : Type 0
@@ -74,3 +74,20 @@ abbrev mutual
 pub sizes-nodes_of : (ns : List Node) → most (λ n. size_of n + 1) ns ≤ suc (sizes_of (nodes_of ns))
 sizes-nodes_of [] = omega arith
 sizes-nodes_of (n ∷ ns) = omega (arith, sizes-nodes_of ns)
+
+-- the same of one child
+pub child_is_smaller : (ns : Nodes) (i : ℕ) (d : Node) → i < length (list_of ns) → size_of (slice_index_or (list_of ns) i d) ≤ sizes_of ns
+child_is_smaller no_nodes i d within = absurd (omega arith)
+child_is_smaller (nodes n ns) zero d within = omega arith
+child_is_smaller (nodes n ns) (suc i) d within = omega (arith, child_is_smaller ns i d (omega arith))
+
+pub size_of-child : (n : Node) (i : ℕ) (d : Node) → i < length (children_of n) → size_of (slice_index_or (children_of n) i d) < size_of n
+size_of-child (node label local below) i d within = omega (arith, child_is_smaller below i d within)
+
+-- as a loop over a node's children knows them
+pub size_of-found : (size : ℕ) (n : Node) (children : List Node) (i : ℕ) (child : Node) → children ≡ children_of n → i < length children → child ≡ slice_index_or children i child → size_of n ≡ size → size_of child < size
+size_of-found size n children i child same within is whole =
+    let inside : i < length (children_of n) = subst (λ (ns : List Node). i < length ns) same within in
+    let equal : child ≡ slice_index_or (children_of n) i child = is ∙ ap (λ (ns : List Node). slice_index_or ns i child) same in
+    let less = size_of-child n i child inside in
+    omega (arith, less, ap size_of equal, whole)

@@ -3,3 +3,4 @@ pub mod Gives
 pub mod Grammar
 pub mod Message
 pub mod Syntax
+pub mod Meaning

@@ -1,0 +1,90 @@
+//! A script, line by line.
+ghost use Rattle.std.specs.Prelude.{◌≡◌, ◌≤◌, ◌<◌, ◌→◌, IsErrOf};
+
+use crate::line::{NextLine, next_line};
+use crate::source::{Source, SourceError};
+use iris_json::Why;
+use std::alloc::Global;
+
+/// The greatest number of bytes of a script.
+pub const MOST_BYTES: usize = 268_435_456;
+
+/// Why a script goes no further.
+#[derive(Clone, Copy, Debug, PartialEq, Eq)]
+pub enum Halt {
+    /// The source failed.
+    ReadFault,
+    /// The sink failed.
+    WriteFault,
+    /// The present line is at fault.
+    BadLine { why: Why },
+    /// The script has more bytes than it may have.
+    TooLong,
+    /// There was no memory.
+    Memory,
+}
+
+impl From<SourceError> for Halt {
+    fn from(error: SourceError) -> Halt {
+        match error {
+            SourceError::Failed => Halt::ReadFault,
+            SourceError::Memory => Halt::Memory,
+        }
+    }
+}
+
+/// A script that is read line by line.
+#[derive(Debug, Drop)]
+pub struct Script {
+    line: Vec<u8>,
+    number: u64,
+    // How many bytes it may still have.
+    left: usize,
+    ghost within: { left ≤ 268435456 },
+}
+
+impl Script {
+    /// A script of which nothing is read.
+    pub fn new(alloc: Global) -> Script {
+        Script {
+            line: Vec::new(alloc),
+            number: 0,
+            left: MOST_BYTES,
+        }
+    }
+
+    /// The present line, without its LF.
+    pub fn line(&self) -> &[u8] {
+        self.line.as_slice()
+    }
+
+    /// The number of the present line, from 1.
+    pub fn number(&self) -> u64 {
+        self.number
+    }
+
+    /// Reads the next line, and answers whether there is one.
+    pub fn next<S: Source>(&mut self, source: &mut S) -> Result<bool, Halt> {
+        let first = self.number == 0;
+        self.number = self.number.saturating_add(1);
+        match next_line(source, &mut self.line, self.left)? {
+            NextLine::Whole => {
+                if self.line.len() >= self.left {
+                    return Err(Halt::TooLong);
+                }
+                self.left -= self.line.len() + 1;
+                Ok(true)
+            }
+            NextLine::End => {
+                if first {
+                    return Err(Halt::BadLine { why: Why::Empty });
+                }
+                Ok(false)
+            }
+            NextLine::Cut => Err(Halt::BadLine {
+                why: Why::Truncated,
+            }),
+            NextLine::Long => Err(Halt::TooLong),
+        }
+    }
+}

@@ -1,0 +1,38 @@
+//! How a run of the program ends.
+ghost use Rattle.std.specs.Prelude.{◌≡◌};
+
+use iris_json::{Which, Why};
+
+/// How a run of the program ended. After `BadScript` and `Limit` a last line tells why.
+#[derive(Clone, Copy, Debug, PartialEq, Eq)]
+pub enum Status {
+    /// The script was read to its end, and all lines are written.
+    Done,
+    /// The words are not a list that the program takes. Nothing was read or written.
+    Usage,
+    /// That line of the script, counted from 1, is the first that is not of its form or has no LF.
+    BadScript { line: u64, why: Why },
+    /// The source failed.
+    ReadFault,
+    /// The sink failed.
+    WriteFault,
+    /// That limit was passed; the count is the least that passes it.
+    Limit { which: Which, count: u64 },
+    /// There was no memory.
+    Memory,
+}
+
+impl Status {
+    /// The exit status of the program.
+    pub fn number(self) -> u8 {
+        match self {
+            Status::Done => 0,
+            Status::Usage => 2,
+            Status::BadScript { .. } => 3,
+            Status::ReadFault => 4,
+            Status::WriteFault => 5,
+            Status::Limit { .. } => 7,
+            Status::Memory => 9,
+        }
+    }
+}

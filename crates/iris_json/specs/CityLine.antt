@@ -1,0 +1,96 @@
+-- The city line, as a relation between bytes and what a city holds.
+use Rattle.std.specs.Prelude.{◌≡◌, ◌≢◌, ◌⊎◌, ℕ, suc, ◌<◌, ◌≤◌, false, true, Contains, List, [], ◌∷◌, map, length, codes, Option, Some, None, Result, Ok, Err}
+use Rattle.std.specs.List.{AllByRecursion, IsDistinct}
+use Rattle.std.specs.Str.{bytes_eq}
+use Rattle.serde_json.specs.Data.{Data, string, array, object, Items, no_items, item}
+use Rattle.serde_json.specs.Find.{get}
+use Rattle.serde_json.specs.View.{items_of}
+use Rattle.iris_base.specs.declared.name.Label.{Label}
+use Rattle.iris_base.specs.Forms.{IsKind, IsId, IsTag, IsAgentId}
+use Rattle.iris_base.specs.NameOrder.{label_eq}
+use Rattle.iris_base.specs.NameText.{name_text}
+use Rattle.iris_tree.specs.declared.local.Local.{Local}
+use Rattle.iris_tree.specs.Attrs.{Pairs}
+use Rattle.iris_tree.specs.LocalText.{attrs_data, local_text}
+use Rattle.iris_tree.specs.Universe.{Node, node, nodes_of, label_of, labels_of, insert_node}
+use Rattle.iris_tree.specs.NodeCode.{size_of}
+use Rattle.iris_json.specs.Lines.{IsJson, has_only}
+
+-- a list of texts
+abbrev pub texts : List (List ℕ) → Data
+texts ts = array (items_of (map string ts))
+
+-- 1 to 16 different kinds
+pub record AreKinds (kinds : List (List ℕ)) : Type 0 where
+  pub some : 0 < length kinds
+  pub few : length kinds ≤ 16
+  pub each : AllByRecursion IsKind kinds
+  pub differ : IsDistinct bytes_eq kinds
+
+-- at most 64 attributes, each with a name of its form that is not `id`
+pub record AreAttrs (pairs : Pairs) : Type 0 where
+  pub few : length pairs ≤ 64
+  pub named : AllByRecursion (λ p. IsTag p.0 × (bytes_eq p.0 (codes "id") ≡ false)) pairs
+
+-- the attributes at the key `attrs`; absent means none
+abbrev pub AttrsAt : Data → Pairs → Type 0
+AttrsAt d pairs = (get (codes "attrs") d ≡ Some (attrs_data pairs)) ⊎ ((get (codes "attrs") d ≡ None) × (pairs ≡ []))
+
+-- the list at the key `nodes`; absent means none
+abbrev pub NodesAt : Data → Items → Type 0
+NodesAt d items = (get (codes "nodes") d ≡ Some (array items)) ⊎ ((get (codes "nodes") d ≡ None) × (items ≡ no_items))
+
+-- a label of one of the kinds
+pub record IsLabel (kinds : List (List ℕ)) (label : Label) : Type 0 where
+  pub kind : Contains kinds label.kind
+  pub id : IsId label.id
+
+-- a node holds attributes and no plain elements, and its canonical text is short
+pub record IsLocal (local : Local) : Type 0 where
+  pub attrs : AreAttrs local.attrs
+  pub no_plain : local.plain ≡ []
+  pub short : length (local_text local) ≤ 1024
+
+-- the nodes in the order of their labels, put into it one after another
+abbrev pub put_in_order : List Node → List Node → List Node
+put_in_order [] placed = placed
+put_in_order (n ∷ ns) placed = put_in_order ns (insert_node n placed)
+
+abbrev pub in_order : List Node → List Node
+in_order ns = put_in_order ns []
+
+-- at most 2,000 siblings, no two with one label
+pub record AreSiblings (ns : List Node) : Type 0 where
+  pub few : length ns ≤ 2000
+  pub differ : IsDistinct label_eq (labels_of ns)
+
+-- a value is a node, with at most so many levels of nodes
+mutual
+  pub data IsNode (kinds : List (List ℕ)) : ℕ → Data → Node → Type 0 where
+    is_node : (levels : ℕ) (d : Data) (label : Label) (local : Local) (items : Items) (below : List Node)
+        → has_only (codes "kind" ∷ codes "id" ∷ codes "attrs" ∷ codes "nodes" ∷ []) d ≡ true
+        → get (codes "kind") d ≡ Some (string label.kind) → get (codes "id") d ≡ Some (string label.id) → IsLabel kinds label
+        → AttrsAt d local.attrs → IsLocal local
+        → NodesAt d items → AreNodes kinds levels items below → AreSiblings below
+        → IsNode kinds (suc levels) d (node label local (nodes_of (in_order below)))
+
+  pub data AreNodes (kinds : List (List ℕ)) : ℕ → Items → List Node → Type 0 where
+    none : (levels : ℕ) → AreNodes kinds levels no_items []
+    more : (levels : ℕ) (d : Data) (n : Node) (items : Items) (ns : List Node) → IsNode kinds levels d n → AreNodes kinds levels items ns → AreNodes kinds levels (item d items) (n ∷ ns)
+
+-- a value is the line of a city of one agent, which is placed at the top node
+pub record IsCity (d : Data) (kinds : List (List ℕ)) (agent : List ℕ) (tree : Node) : Type 0 where
+  pub keys : has_only (codes "kinds" ∷ codes "agents" ∷ codes "place" ∷ codes "tree" ∷ []) d ≡ true
+  pub kinds_at : get (codes "kinds") d ≡ Some (texts kinds)
+  pub are_kinds : AreKinds kinds
+  pub agents_at : get (codes "agents") d ≡ Some (texts (agent ∷ []))
+  pub is_agent : IsAgentId agent
+  pub place_at : get (codes "place") d ≡ Some (array (item (texts (name_text (label_of tree ∷ []) ∷ agent ∷ [])) no_items))
+  pub node : Data
+  pub tree_at : get (codes "tree") d ≡ Some node
+  pub is_tree : IsNode kinds 16 node tree
+  pub few : size_of tree ≤ 20000
+
+-- the bytes are a spelling of the city line, of at most 4,194,304 bytes
+abbrev pub ReadsCity : List ℕ → List (List ℕ) → List ℕ → Node → Type 0
+ReadsCity bytes kinds agent tree = (length bytes ≤ 4194304) × ((d : Data) × IsJson bytes d × IsCity d kinds agent tree)

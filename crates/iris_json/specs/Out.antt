@@ -1,0 +1,70 @@
+-- The lines of a run as JSON.
+use Rattle.std.specs.Prelude.{ℕ, List, [], ◌∷◌, map, codes, Bool}
+use Rattle.serde_json.specs.Data.{Data, unsigned, boolean, number, string, array, object, no_members, member}
+use Rattle.serde_json.specs.View.{items_of}
+use Rattle.serde_json.specs.Written.{compact_text}
+use Rattle.iris_base.specs.NameText.{name_text}
+use Rattle.iris_tree.specs.LocalText.{plain_data}
+use Rattle.iris_json.specs.declared.item.Element.{Element}
+use Rattle.iris_json.specs.declared.item.Element.TheVariants.{Node, Plain}
+use Rattle.iris_json.specs.declared.item.Item.{Item}
+use Rattle.iris_json.specs.declared.out.Cite.{Cite}
+use Rattle.iris_json.specs.declared.out.Why.{Why}
+use Rattle.iris_json.specs.declared.out.Why.TheVariants.{Empty, Truncated, Shape}
+use Rattle.iris_json.specs.declared.out.Which.{Which}
+use Rattle.iris_json.specs.declared.out.Which.TheVariants.{Script}
+use Rattle.iris_json.specs.declared.out.Out.{Out}
+use Rattle.iris_json.specs.declared.out.Out.TheVariants.{Query, Answer, Settled, Ended, Limit}
+use Rattle.iris_json.specs.Render.{node_data, item_data}
+
+abbrev pub element_data : Element → Data
+element_data (Node tree) = node_data tree
+element_data (Plain plain) = plain_data plain
+
+abbrev pub items_data : List Item → Data
+items_data items = array (items_of (map (λ i. item_data i.at (element_data i.is)) items))
+
+abbrev pub count : ℕ → Data
+count n = number (unsigned n)
+
+-- a cite is the list of a name, a version and a moment
+abbrev pub cite_data : Cite → Data
+cite_data c = array (items_of (string (name_text c.name) ∷ count c.version ∷ count c.stamp ∷ []))
+
+abbrev pub why_word : Why → List ℕ
+why_word Empty = codes "empty"
+why_word Truncated = codes "truncated"
+why_word Shape = codes "shape"
+
+abbrev pub which_word : Which → List ℕ
+which_word Script = codes "script"
+
+-- a line: its keys in the order of their bytes
+abbrev pub out_data : Out → Data
+out_data (Query post request to) = object
+    (member (codes "kind") (string (codes "query"))
+    (member (codes "post") (count post)
+    (member (codes "request") (count request)
+    (member (codes "to") (string to)
+    no_members))))
+out_data (Answer answer cites newest request) = object
+    (member (codes "answer") (items_data answer)
+    (member (codes "cites") (array (items_of (map cite_data cites)))
+    (member (codes "newest") (boolean newest)
+    (member (codes "request") (count request)
+    no_members))))
+out_data (Settled settled) = object (member (codes "settled") (count settled) no_members)
+out_data (Ended line why) = object
+    (member (codes "ended") (count 3)
+    (member (codes "line") (count line)
+    (member (codes "why") (string (why_word why))
+    no_members)))
+out_data (Limit limit which) = object
+    (member (codes "count") (count limit)
+    (member (codes "ended") (count 7)
+    (member (codes "which") (string (which_word which))
+    no_members)))
+
+-- the text of a line, without its LF
+abbrev pub out_text : Out → List ℕ
+out_text out = compact_text (out_data out)
