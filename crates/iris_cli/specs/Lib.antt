@@ -1,2 +1,3 @@
+pub mod Halt
 pub mod Lines
 pub mod Outside

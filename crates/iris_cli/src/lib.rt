@@ -2,6 +2,7 @@
 //! script.
 #![tactic(auto)]
 
+mod halt;
 mod line;
 mod player;
 mod script;

@@ -1,7 +1,10 @@
 //! The play of a script.
-ghost use Rattle.std.specs.Prelude.{◌≡◌};
+ghost use Rattle.std.specs.Prelude.{◌≡◌, ◌↔◌, ◌<◌, ◌⊎◌, IsTrue, IsErrOf};
+ghost use Rattle.iris_cli.specs.Outside.{HasCause};
+ghost use Rattle.iris_cli.specs.Halt.{IsPlay};
 
-use crate::script::{Halt, MOST_BYTES, Script};
+use crate::halt::Halt;
+use crate::script::{MOST_BYTES, Script};
 use crate::session::{Session, put};
 use crate::sink::Sink;
 use crate::source::Source;
@@ -11,7 +14,9 @@ use iris_tree::Text;
 use std::alloc::Global;
 
 // Whether the words ask to play a script without a store.
-fn asks_to_play(words: &[Text]) -> bool {
+fn asks_to_play(words: &[Text]) -> bool
+    ensures { IsTrue result ↔ IsPlay words.now }
+{
     match words {
         [word] => word.as_str() == "play",
         _ => false,
@@ -24,7 +29,10 @@ fn run<S: Source, K: Sink>(
     script: &mut Script,
     source: &mut S,
     sink: &mut K,
-) -> Result<(), Halt> {
+) -> Result<(), Halt>
+    ensures read { HasCause Halt.ReadFault (S.faults source.old) (S.faults source.new) result }
+    ensures write { HasCause Halt.WriteFault (K.faults sink.old) (K.faults sink.new) result }
+{
     script.next(source)?;
     let mut session = Session::start(alloc, script.line())?;
     'lines: while script.next(source)? {
@@ -34,7 +42,9 @@ fn run<S: Source, K: Sink>(
 }
 
 // Writes the last line, and answers the status that it tells.
-fn end<K: Sink>(alloc: Global, out: &Out, told: Status, sink: &mut K) -> Status {
+fn end<K: Sink>(alloc: Global, out: &Out, told: Status, sink: &mut K) -> Status
+    ensures told { (result ≡ told) ⊎ (result ≡ Status.Memory) ⊎ ((result ≡ Status.WriteFault) × (K.faults sink.old < K.faults sink.new)) }
+{
     match put(alloc, out, sink) {
         Ok(()) => told,
         Err(Halt::WriteFault) => Status::WriteFault,
@@ -55,7 +65,12 @@ pub fn play<S: Source, K: Sink>(
     words: &[Text],
     source: &mut S,
     sink: &mut K,
-) -> Status {
+) -> Status
+    ensures usage { (result ≡ Status.Usage) ↔ (IsPlay words.now → ⊥) }
+    ensures untouched { result ≡ Status.Usage → (source.new ≡ source.old) × (sink.new ≡ sink.old) }
+    ensures read { result ≡ Status.ReadFault → S.faults source.old < S.faults source.new }
+    ensures write { result ≡ Status.WriteFault → K.faults sink.old < K.faults sink.new }
+{
     if !asks_to_play(words) {
         return Status::Usage;
     }

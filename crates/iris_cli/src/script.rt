@@ -1,37 +1,16 @@
 //! A script, line by line.
-ghost use Rattle.std.specs.Prelude.{◌≡◌, ◌≤◌, ◌<◌, ◌→◌, IsErrOf};
+ghost use Rattle.std.specs.Prelude.{◌≡◌, ◌≤◌, ◌<◌, IsTrue, IfOk, IfErr};
+ghost use Rattle.iris_cli.specs.Outside.{HasCause};
+ghost use Rattle.iris_cli.specs.Halt.{IsNoWriteFault};
 
+use crate::halt::Halt;
 use crate::line::{NextLine, next_line};
-use crate::source::{Source, SourceError};
+use crate::source::Source;
 use iris_json::Why;
 use std::alloc::Global;
 
 /// The greatest number of bytes of a script.
 pub const MOST_BYTES: usize = 268_435_456;
-
-/// Why a script goes no further.
-#[derive(Clone, Copy, Debug, PartialEq, Eq)]
-pub enum Halt {
-    /// The source failed.
-    ReadFault,
-    /// The sink failed.
-    WriteFault,
-    /// The present line is at fault.
-    BadLine { why: Why },
-    /// The script has more bytes than it may have.
-    TooLong,
-    /// There was no memory.
-    Memory,
-}
-
-impl From<SourceError> for Halt {
-    fn from(error: SourceError) -> Halt {
-        match error {
-            SourceError::Failed => Halt::ReadFault,
-            SourceError::Memory => Halt::Memory,
-        }
-    }
-}
 
 /// A script that is read line by line.
 #[derive(Debug, Drop)]
@@ -64,7 +43,11 @@ impl Script {
     }
 
     /// Reads the next line, and answers whether there is one.
-    pub fn next<S: Source>(&mut self, source: &mut S) -> Result<bool, Halt> {
+    pub fn next<S: Source>(&mut self, source: &mut S) -> Result<bool, Halt>
+        ensures cause { HasCause Halt.ReadFault (S.faults source.old) (S.faults source.new) result }
+        ensures reads { IfErr result IsNoWriteFault }
+        ensures shorter { IfOk result (λ more. IsTrue more → self.new.left < self.old.left) }
+    {
         let first = self.number == 0;
         self.number = self.number.saturating_add(1);
         match next_line(source, &mut self.line, self.left)? {

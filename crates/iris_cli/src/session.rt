@@ -1,69 +1,15 @@
 //! A city under a script: what is posted and not yet delivered, and what each line brings about.
-ghost use Rattle.std.specs.Prelude.{◌≡◌};
+ghost use Rattle.std.specs.Prelude.{◌≡◌, IfErr};
+ghost use Rattle.iris_cli.specs.Outside.{HasCause};
+ghost use Rattle.iris_cli.specs.Halt.{IsNoFault, IsNoReadFault};
 
-use crate::script::Halt;
-use crate::sink::{Sink, SinkError};
-use iris_json::{
-    Cite, City, CityError, Line, LineError, Out, Why, read_city, read_line, write_out,
-};
+use crate::halt::Halt;
+use crate::sink::Sink;
+use iris_json::{Cite, City, Line, Out, Why, read_city, read_line, write_out};
 use iris_select::{evaluate, items_at};
-use iris_tree::{AgentId, Memory, Sequence, Text};
-use iris_xpath::{Query, QueryError, parse};
-use std::alloc::{AllocError, AllocFailed, Global};
-
-impl From<Memory> for Halt {
-    fn from(_error: Memory) -> Halt {
-        Halt::Memory
-    }
-}
-
-impl From<AllocError> for Halt {
-    fn from(_error: AllocError) -> Halt {
-        Halt::Memory
-    }
-}
-
-impl<T: Drop> From<AllocFailed<T>> for Halt {
-    fn from(_error: AllocFailed<T>) -> Halt {
-        Halt::Memory
-    }
-}
-
-impl From<SinkError> for Halt {
-    fn from(error: SinkError) -> Halt {
-        match error {
-            SinkError::Failed => Halt::WriteFault,
-            SinkError::Memory => Halt::Memory,
-        }
-    }
-}
-
-impl From<CityError> for Halt {
-    fn from(error: CityError) -> Halt {
-        match error {
-            CityError::BadCity { .. } => Halt::BadLine { why: Why::Shape },
-            CityError::Memory => Halt::Memory,
-        }
-    }
-}
-
-impl From<LineError> for Halt {
-    fn from(error: LineError) -> Halt {
-        match error {
-            LineError::BadLine { .. } => Halt::BadLine { why: Why::Shape },
-            LineError::Memory => Halt::Memory,
-        }
-    }
-}
-
-impl From<QueryError> for Halt {
-    fn from(error: QueryError) -> Halt {
-        match error {
-            QueryError::Later => Halt::BadLine { why: Why::Shape },
-            QueryError::Memory => Halt::Memory,
-        }
-    }
-}
+use iris_tree::{AgentId, Sequence, Text};
+use iris_xpath::{Query, parse};
+use std::alloc::Global;
 
 // A query that is posted and not yet delivered.
 #[derive(Debug, Drop)]
@@ -85,7 +31,10 @@ pub struct Session {
 }
 
 /// Writes a line of the run, with its LF.
-pub fn put<K: Sink>(alloc: Global, out: &Out, sink: &mut K) -> Result<(), Halt> {
+pub fn put<K: Sink>(alloc: Global, out: &Out, sink: &mut K) -> Result<(), Halt>
+    ensures cause { HasCause Halt.WriteFault (K.faults sink.old) (K.faults sink.new) result }
+    ensures writes { IfErr result IsNoReadFault }
+{
     let mut text = write_out(alloc, out)?;
     text.push(b'\n')?;
     sink.put(&text)?;
@@ -94,7 +43,9 @@ pub fn put<K: Sink>(alloc: Global, out: &Out, sink: &mut K) -> Result<(), Halt> 
 
 impl Session {
     /// The city of a city line, with nothing posted.
-    pub fn start(alloc: Global, line: &[u8]) -> Result<Session, Halt> {
+    pub fn start(alloc: Global, line: &[u8]) -> Result<Session, Halt>
+        ensures { IfErr result IsNoFault }
+    {
         let city = read_city(alloc, line)?;
         let Some(agent) = city.agents.as_slice().first() else {
             return Err(Halt::BadLine { why: Why::Shape });
@@ -109,7 +60,10 @@ impl Session {
     }
 
     /// Reads a line after the first and does what it says.
-    pub fn run<K: Sink>(&mut self, line: &[u8], sink: &mut K) -> Result<(), Halt> {
+    pub fn run<K: Sink>(&mut self, line: &[u8], sink: &mut K) -> Result<(), Halt>
+        ensures cause { HasCause Halt.WriteFault (K.faults sink.old) (K.faults sink.new) result }
+        ensures writes { IfErr result IsNoReadFault }
+    {
         match read_line(self.alloc, line)? {
             Line::Query { query } => self.post(&query, sink),
             Line::Settle => self.settle(sink),
@@ -117,7 +71,10 @@ impl Session {
     }
 
     // Posts a query to the agent.
-    fn post<K: Sink>(&mut self, text: &Text, sink: &mut K) -> Result<(), Halt> {
+    fn post<K: Sink>(&mut self, text: &Text, sink: &mut K) -> Result<(), Halt>
+        ensures cause { HasCause Halt.WriteFault (K.faults sink.old) (K.faults sink.new) result }
+        ensures writes { IfErr result IsNoReadFault }
+    {
         let query = parse(self.alloc, text.as_str(), self.city.kinds.as_slice())?;
         let post = self.posts;
         let Some(posts) = post.checked_add(1) else {
@@ -140,7 +97,9 @@ impl Session {
     }
 
     // The answer of a query on the city.
-    fn answer(&self, posted: &Posted) -> Result<Out, Halt> {
+    fn answer(&self, posted: &Posted) -> Result<Out, Halt>
+        ensures { IfErr result IsNoFault }
+    {
         let found = evaluate(self.alloc, &self.city.tree, &posted.query)?;
         let items = items_at(self.alloc, &self.city.tree, &found.places)?;
         let mut cites = Sequence::new(self.alloc);
@@ -160,7 +119,10 @@ impl Session {
     }
 
     // Answers all that is posted, in the order of posting.
-    fn settle<K: Sink>(&mut self, sink: &mut K) -> Result<(), Halt> {
+    fn settle<K: Sink>(&mut self, sink: &mut K) -> Result<(), Halt>
+        ensures cause { HasCause Halt.WriteFault (K.faults sink.old) (K.faults sink.new) result }
+        ensures writes { IfErr result IsNoReadFault }
+    {
         for posted in &self.posted {
             let out = self.answer(posted)?;
             put(self.alloc, &out, sink)?;

@@ -1,0 +1,63 @@
+-- Why the play of a script goes no further, by the errors of what it calls.
+use Rattle.std.specs.Prelude.{◌≡◌, List, [], ◌∷◌, ℕ, Result, Ok, Err, codes}
+use Rattle.iris_json.specs.declared.out.Why.TheVariants.{Shape}
+use Rattle.iris_json.specs.declared.city.CityError.{CityError}
+use Rattle.iris_json.specs.declared.city.CityError.TheVariants as city
+use Rattle.iris_json.specs.declared.line.LineError.{LineError}
+use Rattle.iris_json.specs.declared.line.LineError.TheVariants as line
+use Rattle.iris_xpath.specs.declared.error.QueryError.{QueryError}
+use Rattle.iris_xpath.specs.declared.error.QueryError.TheVariants as query
+use Rattle.iris_cli.specs.declared.source.SourceError.{SourceError}
+use Rattle.iris_cli.specs.declared.source.SourceError.TheVariants as source
+use Rattle.iris_cli.specs.declared.sink.SinkError.{SinkError}
+use Rattle.iris_cli.specs.declared.sink.SinkError.TheVariants as sink
+use Rattle.iris_cli.specs.declared.halt.Halt.{Halt}
+use Rattle.iris_cli.specs.declared.halt.Halt.TheVariants.{ReadFault, WriteFault, BadLine, TooLong, Memory}
+
+abbrev pub of_source : SourceError → Halt
+of_source source.Failed = ReadFault
+of_source source.Memory = Memory
+
+abbrev pub of_sink : SinkError → Halt
+of_sink sink.Failed = WriteFault
+of_sink sink.Memory = Memory
+
+abbrev pub of_city : CityError → Halt
+of_city (city.BadCity why) = BadLine Shape
+of_city city.Memory = Memory
+
+abbrev pub of_line : LineError → Halt
+of_line (line.BadLine why) = BadLine Shape
+of_line line.Memory = Memory
+
+abbrev pub of_query : QueryError → Halt
+of_query query.Later = BadLine Shape
+of_query query.Memory = Memory
+
+-- neither the source nor the sink is at fault
+abbrev pub IsNoFault : Halt → Type 0
+IsNoFault ReadFault = ⊥
+IsNoFault WriteFault = ⊥
+IsNoFault (BadLine why) = Unit {0}
+IsNoFault TooLong = Unit {0}
+IsNoFault Memory = Unit {0}
+
+-- the source is not at fault
+abbrev pub IsNoReadFault : Halt → Type 0
+IsNoReadFault ReadFault = ⊥
+IsNoReadFault WriteFault = Unit {0}
+IsNoReadFault (BadLine why) = Unit {0}
+IsNoReadFault TooLong = Unit {0}
+IsNoReadFault Memory = Unit {0}
+
+-- the sink is not at fault
+abbrev pub IsNoWriteFault : Halt → Type 0
+IsNoWriteFault ReadFault = Unit {0}
+IsNoWriteFault WriteFault = ⊥
+IsNoWriteFault (BadLine why) = Unit {0}
+IsNoWriteFault TooLong = Unit {0}
+IsNoWriteFault Memory = Unit {0}
+
+-- the words ask to play a script without a store
+abbrev pub IsPlay : List (List ℕ) → Type 0
+IsPlay words = words ≡ codes "play" ∷ []

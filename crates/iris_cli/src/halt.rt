@@ -1,0 +1,126 @@
+//! Why the play of a script goes no further.
+
+use crate::sink::SinkError;
+use crate::source::SourceError;
+use iris_json::{CityError, LineError, Why};
+use iris_tree::Memory;
+use iris_xpath::QueryError;
+use std::alloc::{AllocError, AllocFailed};
+
+/// Why a script goes no further.
+#[derive(Clone, Copy, Debug, PartialEq, Eq)]
+pub enum Halt {
+    /// The source failed.
+    ReadFault,
+    /// The sink failed.
+    WriteFault,
+    /// The present line is at fault.
+    BadLine { why: Why },
+    /// The script has more bytes than it may have.
+    TooLong,
+    /// There was no memory.
+    Memory,
+}
+
+impl From<Memory> for Halt {
+    ghost use Rattle.std.specs.Prelude.{◌≡◌};
+    ghost use Rattle.iris_cli.specs.declared.halt.Halt.TheVariants.{Memory};
+
+    ghost from_gives = { λ _ halt. halt ≡ Memory };
+
+    fn from(_error: Memory) -> Halt {
+        Halt::Memory
+    }
+}
+
+impl From<AllocError> for Halt {
+    ghost use Rattle.std.specs.Prelude.{◌≡◌};
+    ghost use Rattle.iris_cli.specs.declared.halt.Halt.TheVariants.{Memory};
+
+    ghost from_gives = { λ _ halt. halt ≡ Memory };
+
+    fn from(_error: AllocError) -> Halt {
+        Halt::Memory
+    }
+}
+
+impl<T: Drop> From<AllocFailed<T>> for Halt {
+    ghost use Rattle.std.specs.Prelude.{◌≡◌};
+    ghost use Rattle.iris_cli.specs.declared.halt.Halt.TheVariants.{Memory};
+
+    ghost from_gives = { λ _ halt. halt ≡ Memory };
+
+    fn from(_error: AllocFailed<T>) -> Halt {
+        Halt::Memory
+    }
+}
+
+impl From<SourceError> for Halt {
+    ghost use Rattle.std.specs.Prelude.{◌≡◌};
+    ghost use Rattle.iris_cli.specs.Halt.{of_source};
+
+    ghost from_gives = { λ error halt. halt ≡ of_source error };
+
+    fn from(error: SourceError) -> Halt {
+        match error {
+            SourceError::Failed => Halt::ReadFault,
+            SourceError::Memory => Halt::Memory,
+        }
+    }
+}
+
+impl From<SinkError> for Halt {
+    ghost use Rattle.std.specs.Prelude.{◌≡◌};
+    ghost use Rattle.iris_cli.specs.Halt.{of_sink};
+
+    ghost from_gives = { λ error halt. halt ≡ of_sink error };
+
+    fn from(error: SinkError) -> Halt {
+        match error {
+            SinkError::Failed => Halt::WriteFault,
+            SinkError::Memory => Halt::Memory,
+        }
+    }
+}
+
+impl From<CityError> for Halt {
+    ghost use Rattle.std.specs.Prelude.{◌≡◌};
+    ghost use Rattle.iris_cli.specs.Halt.{of_city};
+
+    ghost from_gives = { λ error halt. halt ≡ of_city error };
+
+    fn from(error: CityError) -> Halt {
+        match error {
+            CityError::BadCity { .. } => Halt::BadLine { why: Why::Shape },
+            CityError::Memory => Halt::Memory,
+        }
+    }
+}
+
+impl From<LineError> for Halt {
+    ghost use Rattle.std.specs.Prelude.{◌≡◌};
+    ghost use Rattle.iris_cli.specs.Halt.{of_line};
+
+    ghost from_gives = { λ error halt. halt ≡ of_line error };
+
+    fn from(error: LineError) -> Halt {
+        match error {
+            LineError::BadLine { .. } => Halt::BadLine { why: Why::Shape },
+            LineError::Memory => Halt::Memory,
+        }
+    }
+}
+
+impl From<QueryError> for Halt {
+    ghost use Rattle.std.specs.Prelude.{◌≡◌};
+    ghost use Rattle.iris_cli.specs.Halt.{of_query};
+
+    ghost from_gives = { λ error halt. halt ≡ of_query error };
+
+    fn from(error: QueryError) -> Halt {
+        match error {
+            QueryError::Later => Halt::BadLine { why: Why::Shape },
+            QueryError::Memory => Halt::Memory,
+        }
+    }
+}
