@@ -10,7 +10,7 @@ use Rattle.std.proofs.lemmas.Bool.{cases_lt}
 use Rattle.iris_base.specs.declared.name.Label.{Label}
 use Rattle.iris_base.specs.NameOrder.{label_cmp, label_eq, labels_total, labels_ties}
 use Rattle.iris_tree.specs.declared.local.Local.{Local}
-use Rattle.iris_tree.specs.Universe.{Node, node, nodes_of, list_of, label_of, labels_of, child_of, insert_node, with_child, IsGap}
+use Rattle.iris_tree.specs.Universe.{Node, node, nodes_of, list_of, label_of, labels_of, child_of, insert_node, with_child, IsGap, AllAfter, IsOrdered, AreOrdered}
 
 pub list_of-nodes_of : (ns : List Node) → list_of (nodes_of ns) ≡ ns
 list_of-nodes_of [] = refl
@@ -112,29 +112,38 @@ insert_in_gap (n ∷ ns) child (suc at) within gap =
 
 -- ---- one more sibling
 
-all_after : (x : Label) (child : Node) (ns : List Node) → label_cmp x (label_of child) ≡ Less → AllByRecursion (λ l. label_cmp x l ≡ Less) (labels_of ns) → AllByRecursion (λ l. label_cmp x l ≡ Less) (labels_of (insert_node child ns))
+-- siblings in order have labels in order
+labels_after : (x : Label) (ns : List Node) → AllAfter x (nodes_of ns) → AllByRecursion (λ l. label_cmp x l ≡ Less) (labels_of ns)
+labels_after x [] h = tt
+labels_after x (n ∷ ns) h = (h.0, labels_after x ns h.1)
+
+pub labels_sorted : (ns : List Node) → AreOrdered (nodes_of ns) → IsStrictlySortedBy label_cmp (labels_of ns)
+unfolding IsStrictlySortedBy
+labels_sorted [] h = tt
+labels_sorted (n ∷ ns) h = (labels_after (label_of n) ns h.1, labels_sorted ns h.2)
+
+all_after : (x : Label) (child : Node) (ns : List Node) → label_cmp x (label_of child) ≡ Less → AllAfter x (nodes_of ns) → AllAfter x (nodes_of (insert_node child ns))
 all_after x child [] before h = (before, tt)
 all_after x child (n ∷ ns) before h =
-    elim (is_lt (label_cmp (label_of child) (label_of n))) as (λ (b : Bool). AllByRecursion (λ l. label_cmp x l ≡ Less) (labels_of (if b then child ∷ n ∷ ns else n ∷ insert_node child ns))) [
+    elim (is_lt (label_cmp (label_of child) (label_of n))) as (λ (b : Bool). AllAfter x (nodes_of (if b then child ∷ n ∷ ns else n ∷ insert_node child ns))) [
       | true ↦ (before, h)
       | false ↦ (h.0, all_after x child ns before h.1)
     ]
 
-all_before : (x y : Label) (ns : List Node) → label_cmp x y ≡ Less → AllByRecursion (λ l. label_cmp y l ≡ Less) (labels_of ns) → AllByRecursion (λ l. label_cmp x l ≡ Less) (labels_of ns)
+all_before : (x y : Label) (ns : List Node) → label_cmp x y ≡ Less → AllAfter y (nodes_of ns) → AllAfter x (nodes_of ns)
 all_before x y [] before h = tt
 all_before x y (n ∷ ns) before h = (labels_total.trans x y (label_of n) before h.0, all_before x y ns before h.1)
 
 -- a node put into the gap of its label keeps the order
-pub sorted_in_gap : (ns : List Node) (child : Node) (at : ℕ) → at ≤ length ns → IsGap ns (label_of child) at → IsStrictlySortedBy label_cmp (labels_of ns) → IsStrictlySortedBy label_cmp (labels_of (insert_node child ns))
-unfolding IsStrictlySortedBy
-sorted_in_gap [] child at within gap sorted = (tt, tt)
-sorted_in_gap (n ∷ ns) child zero within gap sorted =
+ordered_in_gap : (ns : List Node) (child : Node) (at : ℕ) → at ≤ length ns → IsGap ns (label_of child) at → IsOrdered child → AreOrdered (nodes_of ns) → AreOrdered (nodes_of (insert_node child ns))
+ordered_in_gap [] child at within gap new sorted = (new, tt, tt)
+ordered_in_gap (n ∷ ns) child zero within gap new sorted =
     let before = less (label_of n) (label_of child) (gap.1 0 n (omega arith) (omega arith)) in
-    rw before ((before, all_before (label_of child) (label_of n) ns before sorted.0), sorted)
-sorted_in_gap (n ∷ ns) child (suc at) within gap sorted =
+    rw before (new, (before, all_before (label_of child) (label_of n) ns before sorted.1), sorted)
+ordered_in_gap (n ∷ ns) child (suc at) within gap new sorted =
     let before = gap.0 0 n (omega arith) in
     rw (greater (label_of n) (label_of child) before)
-    (all_after (label_of n) child ns before sorted.0, sorted_in_gap ns child at (omega arith) (gap_after n ns (label_of child) at gap) sorted.1)
+    (sorted.0, all_after (label_of n) child ns before sorted.1, ordered_in_gap ns child at (omega arith) (gap_after n ns (label_of child) at gap) new sorted.2)
 
 -- what a binary search for a label says
 pub searched : (ns : List Node) (x : Label) (r : Result ℕ ℕ) → IsStrictlySortedBy label_cmp (labels_of ns) → IsSearchInRange r (length ns) → IsBinarySearchResult (λ n. label_cmp (label_of n) x) ns r
@@ -168,11 +177,11 @@ inserted x siblings old new child at done items is_done label same within gap =
     let there : IsGap old (label_of child) at = subst (λ (l : Label). IsGap old l at) label (subst (λ (ns : List Node). IsGap ns x at) same gap) in
     (items ∙ ap (λ (b : Bool). if b then insert old at child else old) is_done ∙ insert_in_gap old child at place there, place, there)
 
-pub inserted_sorted : (x : Label) (siblings old new : List Node) (child : Node) (at : ℕ) (done : Bool) → new ≡ (if done then insert old at child else old) → done ≡ true → x ≡ label_of child → siblings ≡ old → at ≤ length siblings → IsGap siblings x at
-    → IsStrictlySortedBy label_cmp (labels_of old) → IsStrictlySortedBy label_cmp (labels_of new)
-inserted_sorted x siblings old new child at done items is_done label same within gap sorted =
+pub inserted_ordered : (x : Label) (siblings old new : List Node) (child : Node) (at : ℕ) (done : Bool) → new ≡ (if done then insert old at child else old) → done ≡ true → x ≡ label_of child → siblings ≡ old → at ≤ length siblings → IsGap siblings x at
+    → IsOrdered child → AreOrdered (nodes_of old) → AreOrdered (nodes_of new)
+inserted_ordered x siblings old new child at done items is_done label same within gap below sorted =
     let left = inserted x siblings old new child at done items is_done label same within gap in
-    subst (λ (ns : List Node). IsStrictlySortedBy label_cmp (labels_of ns)) (sym left.0) (sorted_in_gap old child at left.1 left.2 sorted)
+    subst (λ (ns : List Node). AreOrdered (nodes_of ns)) (sym left.0) (ordered_in_gap old child at left.1 left.2 below sorted)
 
 pub inserted_view : (x label : Label) (local : Local) (self : Node) (siblings old new : List Node) (child : Node) (at : ℕ) (done : Bool) → new ≡ (if done then insert old at child else old) → done ≡ true → x ≡ label_of child → siblings ≡ old
     → at ≤ length siblings → IsGap siblings x at → node label local (nodes_of old) ≡ self → node label local (nodes_of new) ≡ with_child self child

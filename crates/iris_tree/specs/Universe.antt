@@ -65,3 +65,19 @@ with_child (node label local below) child = node label local (nodes_of (insert_n
 -- the place at which a label is missing: all before it are less, and all from it on greater
 abbrev pub IsGap : List Node → Label → ℕ → Type 0
 IsGap ns x at = ((i : ℕ) (d : Node) → i < at → label_cmp (label_of (slice_index_or ns i d)) x ≡ Less) × ((i : ℕ) (d : Node) → at ≤ i → i < length ns → label_cmp (label_of (slice_index_or ns i d)) x ≡ Greater)
+
+-- ---- the order of siblings
+
+-- the labels of all these nodes are greater
+abbrev pub AllAfter : Label → Nodes → Type 0
+AllAfter label no_nodes = Unit {0}
+AllAfter label (nodes n ns) = (label_cmp label (label_of n) ≡ Less) × AllAfter label ns
+
+-- at each level the labels rise, so no two siblings have the same one
+abbrev mutual
+  pub IsOrdered : Node → Type 0
+  IsOrdered (node label local below) = AreOrdered below
+
+  pub AreOrdered : Nodes → Type 0
+  AreOrdered no_nodes = Unit {0}
+  AreOrdered (nodes n ns) = IsOrdered n × AllAfter (label_of n) ns × AreOrdered ns

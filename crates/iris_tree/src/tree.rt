@@ -3,7 +3,7 @@ ghost use Rattle.std.specs.Prelude.{◌≡◌, ◌↔◌, ◌<◌, ◌≤◌, So
 ghost use Rattle.std.specs.List.Sorted.{IsStrictlySortedBy};
 ghost use Rattle.iris_base.specs.NameOrder.{label_cmp};
 ghost use Rattle.iris_tree.specs.declared.tree.InsertError.TheVariants as errors;
-ghost use Rattle.iris_tree.specs.Universe.{Node, node, no_nodes, labels_of, IsGap, label_of, local_of, children_of, child_of, node_at, with_child};
+ghost use Rattle.iris_tree.specs.Universe.{Node, node, no_nodes, labels_of, IsGap, IsOrdered, label_of, local_of, children_of, child_of, node_at, with_child};
 
 use crate::local::Local;
 use iris_base::{Label, Mem, Memory, Name};
@@ -42,12 +42,10 @@ pub struct Tree {
 }
 
 impl Model for Tree {
-    ghost use Rattle.std.specs.List.Sorted.{IsStrictlySortedBy};
     ghost use Rattle.std.proofs.Common.{arith};
-    ghost use Rattle.iris_base.specs.NameOrder.{label_cmp};
     ghost use Rattle.iris_base.specs.contracts.name.Label as label_type;
     ghost use Rattle.iris_tree.specs.contracts.local.Local as local_type;
-    ghost use Rattle.iris_tree.specs.Universe.{Node, node, nodes_of, labels_of};
+    ghost use Rattle.iris_tree.specs.Universe.{Node, node, nodes_of, AreOrdered};
     ghost use Rattle.iris_tree.specs.NodeCode.{node_code, size_of, sizes-nodes_of};
 
     ghost Value = { Node };
@@ -56,7 +54,7 @@ impl Model for Tree {
 
     ghost view = { λ t. node t.label t.local (nodes_of t.nodes.items) };
 
-    ghost invariant = { λ t. IsStrictlySortedBy label_cmp (labels_of t.nodes.items) };
+    ghost invariant = { λ t. AreOrdered (nodes_of t.nodes.items) };
 
     ghost size = { size_of };
 
@@ -103,7 +101,8 @@ impl Tree {
     /// The nodes right below, in the order of their labels.
     #[inline]
     pub fn children(&self) -> &[Tree]
-        ensures { result.now ≡ children_of self.now }
+        ensures value { result.now ≡ children_of self.now }
+        ensures ordered { IsOrdered self.now }
     {
         self.nodes.as_slice()
     }
@@ -124,7 +123,7 @@ impl Tree {
         ensures err { OnErr result (self.new ≡ self.old) }
         ensures twin { IsErrOf result errors.Twin ↔ (IsSome (child_of (label_of child) (children_of self.old))) }
     {
-        let Err(at) = search(&self.nodes, child.label()) else {
+        let Err(at) = search(&self.nodes, &child.label) else {
             return Err(InsertError::Twin);
         };
         if self.nodes.insert(at, child).is_err() {

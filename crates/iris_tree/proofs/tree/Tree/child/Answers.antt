@@ -1,7 +1,10 @@
 use Rattle.std.proofs.Common.{◌∙◌, sym, ap}
 use Rattle.iris_tree.specs.Universe.{child_of, children_of}
-use Rattle.iris_tree.proofs.Siblings.{list_of-nodes_of, found_here}
+use Rattle.iris_tree.proofs.Siblings.{list_of-nodes_of, found_here, labels_sorted}
 use Rattle.iris_tree.proofs.tree.Tree.child.Goals as goal
+
+pub search-requires : goal.search-requires
+search-requires c = rw c.deref.ensures.value (labels_sorted c.self.inside.nodes.items c.self.invariant)
 
 pub returns-in-Ok : goal.returns-in-Ok
 returns-in-Ok c =

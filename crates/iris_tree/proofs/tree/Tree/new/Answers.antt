@@ -1,6 +1,4 @@
-use Rattle.std.specs.List.Sorted.{IsStrictlySortedBy}
 use Rattle.iris_tree.proofs.tree.Tree.new.Goals as goal
 
 pub invariant_of-result : goal.invariant_of-result
-unfolding IsStrictlySortedBy
 invariant_of-result c = rw c.new.ensures.items tt
