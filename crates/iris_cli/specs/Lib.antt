@@ -1,3 +1,5 @@
 pub mod Halt
 pub mod Lines
 pub mod Outside
+pub mod Played
+pub mod Run

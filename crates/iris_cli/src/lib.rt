@@ -12,6 +12,8 @@ pub mod source;
 mod status;
 #[cfg(test)]
 mod tests;
+#[cfg(test)]
+mod tests_play;
 
 pub use player::play;
 pub use sink::{MemorySink, Sink, SinkError, StdSink};
