@@ -46,12 +46,9 @@ fn noted(alloc: Global, text: &str) -> Result<Local, TextError> {
 
 // A city with two hoods, put in the wrong order.
 fn city(alloc: Global) -> Result<Tree, Fail> {
-    let mut north = leaf(alloc, "hood", "north")?;
-    north.insert(Tree::new(alloc, label("block", "3")?, noted(alloc, "x")?))?;
     let mut oakland = leaf(alloc, "city", "oakland")?;
     oakland.insert(leaf(alloc, "hood", "south")?)?;
-    oakland.insert(north)?;
-    oakland.insert(leaf(alloc, "block", "9")?)?;
+    oakland.insert(leaf(alloc, "hood", "north")?)?;
     Ok(oakland)
 }
 
@@ -59,78 +56,99 @@ fn city(alloc: Global) -> Result<Tree, Fail> {
 fn attributes(rt: HostRuntime) -> Result<(), Fail> {
     let alloc = rt.alloc();
     let mut attrs = attr(alloc, "free", "no")?;
-    assert!(rt; Attrs::new(alloc).is_empty() && !attrs.is_empty());
     attrs.insert(Tag::new("color")?, Text::new(alloc, "red")?)?;
-    attrs.insert(Tag::new("free")?, Text::new(alloc, "yes")?)?;
     assert_eq!(rt; attrs.len(), 2);
-    assert_eq!(rt; attrs.get("free"), Some("yes"));
+    assert_eq!(rt; attrs.get("free"), Some("no"));
     assert_eq!(rt; attrs.get("color"), Some("red"));
-    assert_eq!(rt; attrs.get("fre"), None);
     assert_eq!(rt; attrs.get("abcdefghijklmnopqrstuvwxyz1234"), None);
-    assert!(rt; attrs.copy()? == attrs && attrs != Attrs::new(alloc));
-    assert_eq!(rt; attrs.as_map().len(), 2);
     Ok(())
 }
 
 #[test]
-fn copies(rt: HostRuntime) -> Result<(), Fail> {
+fn attributes_anew(rt: HostRuntime) -> Result<(), Fail> {
     let alloc = rt.alloc();
-    let mut element = note(alloc, "")?;
-    element.kids.push(note(alloc, "inner")?)?;
-    for kid in element.copy()?.kids.as_slice() {
-        assert_eq!(rt; kid.text.as_str(), "inner");
-    }
-    let copy = noted(alloc, "x")?.copy()?;
+    let mut attrs = attr(alloc, "free", "no")?;
+    attrs.insert(Tag::new("free")?, Text::new(alloc, "yes")?)?;
+    assert_eq!(rt; attrs.as_map().len(), 1);
+    assert_eq!(rt; attrs.get("free"), Some("yes"));
+    Ok(())
+}
+
+#[test]
+fn copies_attributes(rt: HostRuntime) -> Result<(), Fail> {
+    let attrs = attr(rt.alloc(), "free", "no")?;
+    assert!(rt; !attrs.is_empty());
+    assert!(rt; attrs.copy()? == attrs);
+    Ok(())
+}
+
+#[test]
+fn copies_plain(rt: HostRuntime) -> Result<(), Fail> {
+    let mut element = note(rt.alloc(), "")?;
+    element.kids.push(note(rt.alloc(), "inner")?)?;
+    let copy = element.copy()?;
+    assert_eq!(rt; copy.kids.len(), 1);
+    Ok(())
+}
+
+#[test]
+fn copies_local(rt: HostRuntime) -> Result<(), Fail> {
+    let copy = noted(rt.alloc(), "x")?.copy()?;
     assert_eq!(rt; copy.attrs.get("free"), Some("no"));
     assert_eq!(rt; copy.plain.len(), 1);
-    let copy = city(alloc)?.copy()?;
+    Ok(())
+}
+
+#[test]
+fn copies_tree(rt: HostRuntime) -> Result<(), Fail> {
+    let copy = city(rt.alloc())?.copy()?;
     assert_eq!(rt; copy.label().id.as_str(), "oakland");
-    assert_eq!(rt; copy.children().len(), 3);
+    assert_eq!(rt; copy.children().len(), 2);
     Ok(())
 }
 
 #[test]
 fn children_in_label_order(rt: HostRuntime) -> Result<(), Fail> {
-    let alloc = rt.alloc();
-    let mut oakland = city(alloc)?;
-    let twin = Tree::new(alloc, label("hood", "north")?, noted(alloc, "twin")?);
-    assert_eq!(rt; oakland.insert(twin).err(), Some(InsertError::Twin));
-    let mut ids = Vec::new(alloc);
-    for child in oakland.children() {
-        ids.push(child.label().id)?;
-    }
-    assert_eq!(rt;
-        ids.as_slice(),
-        [Id::new("9")?, Id::new("north")?, Id::new("south")?].as_slice()
-    );
+    let oakland = city(rt.alloc())?;
+    let [first, second] = oakland.children() else {
+        return Err(Fail::new("two children"));
+    };
+    assert_eq!(rt; first.label().id.as_str(), "north");
+    assert_eq!(rt; second.label().id.as_str(), "south");
+    Ok(())
+}
+
+#[test]
+fn no_twins(rt: HostRuntime) -> Result<(), Fail> {
     let north = label("hood", "north")?;
-    let found = oakland.child(&north).map(|node| node.local().plain.len());
-    assert_eq!(rt; found, Some(0));
-    let absent = label("hood", "east")?;
-    assert!(rt; oakland.child(&absent).is_none());
+    let mut oakland = city(rt.alloc())?;
+    let twin = Tree::new(rt.alloc(), north, noted(rt.alloc(), "twin")?);
+    assert_eq!(rt; oakland.insert(twin).err(), Some(InsertError::Twin));
+    assert_eq!(rt; oakland.children().len(), 2);
+    let plain = oakland.child(&north).map(|node| node.local().plain.len());
+    assert_eq!(rt; plain, Some(0));
     Ok(())
 }
 
 #[test]
 fn parts(rt: HostRuntime) -> Result<(), Fail> {
-    let alloc = rt.alloc();
-    let oakland = city(alloc)?;
-    let document = Name::document(alloc);
-    let top = document.child(label("city", "oakland")?)?;
-    let block = top
-        .child(label("hood", "north")?)?
-        .child(label("block", "3")?)?;
-    let free = oakland
-        .find(&block)
-        .and_then(|node| node.local().attrs.get("free"));
-    assert_eq!(rt; free, Some("no"));
-    let children = oakland.find(&top).map(|node| node.children().len());
-    assert_eq!(rt; children, Some(3));
-    let below = block.child(label("space", "1")?)?;
-    assert!(rt; oakland.find(&below).is_none());
+    let oakland = city(rt.alloc())?;
+    let document = Name::document(rt.alloc());
     assert!(rt; oakland.find(&document).is_none());
-    let other = document.child(label("city", "berkeley")?)?;
-    assert!(rt; oakland.find(&other).is_none());
+    let top = document.child(label("city", "oakland")?)?;
+    let children = oakland.find(&top).map(|node| node.children().len());
+    assert_eq!(rt; children, Some(2));
+    Ok(())
+}
+
+#[test]
+fn parts_below(rt: HostRuntime) -> Result<(), Fail> {
+    let oakland = city(rt.alloc())?;
+    let top = Name::document(rt.alloc()).child(label("city", "oakland")?)?;
+    let north = top.child(label("hood", "north")?)?;
+    assert!(rt; oakland.find(&north).is_some());
+    let east = top.child(label("hood", "east")?)?;
+    assert!(rt; oakland.find(&east).is_none());
     Ok(())
 }
 
@@ -159,23 +177,42 @@ fn local_texts(rt: HostRuntime) -> Result<(), Fail> {
 
 #[test]
 fn json_texts(rt: HostRuntime) -> Result<(), Fail> {
-    let alloc = rt.alloc();
-    let mut out = JsonText::new(alloc);
-    out.begin_array()?;
+    let mut out = JsonText::new(rt.alloc());
     out.begin_object()?;
     out.key("a")?;
     out.number(18446744073709551615)?;
     out.key("b")?;
     out.boolean(true)?;
     out.end_object()?;
+    assert_eq!(rt;
+        str::from_utf8(&out.into_bytes())?,
+        "{\"a\":18446744073709551615,\"b\":true}"
+    );
+    Ok(())
+}
+
+#[test]
+fn json_strings(rt: HostRuntime) -> Result<(), Fail> {
+    let mut out = JsonText::new(rt.alloc());
+    out.begin_array()?;
     out.string("\u{1}\t")?;
-    attr(alloc, "free", "no")?.write(&mut out)?;
-    note(alloc, "x")?.write(&mut out)?;
-    Local::new(alloc).write(&mut out)?;
+    out.string("/")?;
     out.end_array()?;
     assert_eq!(rt;
         str::from_utf8(&out.into_bytes())?,
-        "[{\"a\":18446744073709551615,\"b\":true},\"\\u0001\\t\",{\"free\":\"no\"},{\"attrs\":{},\"kids\":[],\"tag\":\"note\",\"text\":\"x\"},{\"attrs\":{},\"plain\":[]}]"
+        "[\"\\u0001\\t\",\"/\"]"
+    );
+    Ok(())
+}
+
+#[test]
+fn writes_parts(rt: HostRuntime) -> Result<(), Fail> {
+    let mut out = JsonText::new(rt.alloc());
+    attr(rt.alloc(), "free", "no")?.write(&mut out)?;
+    note(rt.alloc(), "x")?.write(&mut out)?;
+    assert_eq!(rt;
+        str::from_utf8(&out.into_bytes())?,
+        "{\"free\":\"no\"},{\"attrs\":{},\"kids\":[],\"tag\":\"note\",\"text\":\"x\"}"
     );
     Ok(())
 }
