@@ -1,0 +1,2 @@
+pub mod MemberKeys
+pub mod LineReading
