@@ -1,2 +1,3 @@
 pub mod MemberKeys
 pub mod LineReading
+pub mod AttrReading
