@@ -1,3 +1,5 @@
 pub mod MemberKeys
 pub mod LineReading
 pub mod AttrReading
+pub mod LabelReading
+pub mod NodeReading
