@@ -1,1 +1,6 @@
+pub mod AttrReading
+pub mod LabelReading
+pub mod LineReading
+pub mod MemberKeys
+pub mod NodeReading
 pub mod Written

@@ -14,6 +14,8 @@ use Rattle.iris_tree.specs.Attrs.{Pairs}
 use Rattle.iris_tree.specs.LocalText.{attrs_data, local_text}
 use Rattle.iris_tree.specs.Universe.{Node, node, nodes_of, label_of, labels_of, insert_node}
 use Rattle.iris_tree.specs.NodeCode.{size_of}
+use Rattle.iris_json.specs.declared.city.CityError.{CityError}
+use Rattle.iris_json.specs.declared.city.CityError.TheVariants.{BadCity, Memory}
 use Rattle.iris_json.specs.Lines.{IsJson, has_only}
 
 -- a list of texts
@@ -27,29 +29,42 @@ pub record AreKinds (kinds : List (List ℕ)) : Type 0 where
   pub each : AllByRecursion IsKind kinds
   pub differ : IsDistinct bytes_eq kinds
 
--- at most 64 attributes, each with a name of its form that is not `id`
+-- the kinds at the key `kinds`
+abbrev pub KindsAt : Data → List (List ℕ) → Type 0
+KindsAt d kinds = (get (codes "kinds") d ≡ Some (texts kinds)) × AreKinds kinds
+
+-- the one agent at the key `agents`
+abbrev pub AgentAt : Data → List ℕ → Type 0
+AgentAt d agent = (get (codes "agents") d ≡ Some (texts (agent ∷ []))) × IsAgentId agent
+
+-- the name of an attribute: of its form, and not `id`
+abbrev pub IsAttrName : List ℕ → Type 0
+IsAttrName name = IsTag name × (bytes_eq name (codes "id") ≡ false)
+
+-- at most 64 attributes
 pub record AreAttrs (pairs : Pairs) : Type 0 where
   pub few : length pairs ≤ 64
-  pub named : AllByRecursion (λ p. IsTag p.0 × (bytes_eq p.0 (codes "id") ≡ false)) pairs
+  pub named : AllByRecursion (λ p. IsAttrName p.0) pairs
 
 -- the attributes at the key `attrs`; absent means none
 abbrev pub AttrsAt : Data → Pairs → Type 0
-AttrsAt d pairs = (get (codes "attrs") d ≡ Some (attrs_data pairs)) ⊎ ((get (codes "attrs") d ≡ None) × (pairs ≡ []))
+AttrsAt d pairs = ((get (codes "attrs") d ≡ Some (attrs_data pairs)) ⊎ ((get (codes "attrs") d ≡ None) × (pairs ≡ []))) × AreAttrs pairs
+
+-- what a node holds itself: attributes and no plain elements, and its canonical text is short
+abbrev pub LocalAt : Data → Local → Type 0
+LocalAt d local = AttrsAt d local.attrs × (local.plain ≡ []) × (length (local_text local) ≤ 1024)
 
 -- the list at the key `nodes`; absent means none
 abbrev pub NodesAt : Data → Items → Type 0
 NodesAt d items = (get (codes "nodes") d ≡ Some (array items)) ⊎ ((get (codes "nodes") d ≡ None) × (items ≡ no_items))
 
--- a label of one of the kinds
-pub record IsLabel (kinds : List (List ℕ)) (label : Label) : Type 0 where
-  pub kind : Contains kinds label.kind
-  pub id : IsId label.id
+-- the label at the keys `kind` and `id`, of one of the kinds
+abbrev pub LabelAt : List (List ℕ) → Data → Label → Type 0
+LabelAt kinds d label = (get (codes "kind") d ≡ Some (string label.kind)) × (get (codes "id") d ≡ Some (string label.id)) × Contains kinds label.kind × IsId label.id
 
--- a node holds attributes and no plain elements, and its canonical text is short
-pub record IsLocal (local : Local) : Type 0 where
-  pub attrs : AreAttrs local.attrs
-  pub no_plain : local.plain ≡ []
-  pub short : length (local_text local) ≤ 1024
+-- an object with the keys of a node, and the label and the local information in it
+abbrev pub OwnAt : List (List ℕ) → Data → Label → Local → Type 0
+OwnAt kinds d label local = (has_only (codes "kind" ∷ codes "id" ∷ codes "attrs" ∷ codes "nodes" ∷ []) d ≡ true) × LabelAt kinds d label × LocalAt d local
 
 -- the nodes in the order of their labels, put into it one after another
 abbrev pub put_in_order : List Node → List Node → List Node
@@ -68,10 +83,7 @@ pub record AreSiblings (ns : List Node) : Type 0 where
 mutual
   pub data IsNode (kinds : List (List ℕ)) : ℕ → Data → Node → Type 0 where
     is_node : (levels : ℕ) (d : Data) (label : Label) (local : Local) (items : Items) (below : List Node)
-        → has_only (codes "kind" ∷ codes "id" ∷ codes "attrs" ∷ codes "nodes" ∷ []) d ≡ true
-        → get (codes "kind") d ≡ Some (string label.kind) → get (codes "id") d ≡ Some (string label.id) → IsLabel kinds label
-        → AttrsAt d local.attrs → IsLocal local
-        → NodesAt d items → AreNodes kinds levels items below → AreSiblings below
+        → OwnAt kinds d label local → NodesAt d items → AreNodes kinds levels items below → AreSiblings below
         → IsNode kinds (suc levels) d (node label local (nodes_of (in_order below)))
 
   pub data AreNodes (kinds : List (List ℕ)) : ℕ → Items → List Node → Type 0 where
@@ -81,10 +93,8 @@ mutual
 -- a value is the line of a city of one agent, which is placed at the top node
 pub record IsCity (d : Data) (kinds : List (List ℕ)) (agent : List ℕ) (tree : Node) : Type 0 where
   pub keys : has_only (codes "kinds" ∷ codes "agents" ∷ codes "place" ∷ codes "tree" ∷ []) d ≡ true
-  pub kinds_at : get (codes "kinds") d ≡ Some (texts kinds)
-  pub are_kinds : AreKinds kinds
-  pub agents_at : get (codes "agents") d ≡ Some (texts (agent ∷ []))
-  pub is_agent : IsAgentId agent
+  pub kinds_at : KindsAt d kinds
+  pub agent_at : AgentAt d agent
   pub place_at : get (codes "place") d ≡ Some (array (item (texts (name_text (label_of tree ∷ []) ∷ agent ∷ [])) no_items))
   pub node : Data
   pub tree_at : get (codes "tree") d ≡ Some node
@@ -94,3 +104,9 @@ pub record IsCity (d : Data) (kinds : List (List ℕ)) (agent : List ℕ) (tree 
 -- the bytes are a spelling of the city line, of at most 4,194,304 bytes
 abbrev pub ReadsCity : List ℕ → List (List ℕ) → List ℕ → Node → Type 0
 ReadsCity bytes kinds agent tree = (length bytes ≤ 4194304) × ((d : Data) × IsJson bytes d × IsCity d kinds agent tree)
+
+-- a reader gives that value, unless there was no memory
+abbrev pub Gives : {X : Type 0} → Result X CityError → X → Type 0
+Gives (Ok found) x = found ≡ x
+Gives (Err (BadCity why)) x = ⊥
+Gives (Err Memory) x = Unit {0}

@@ -41,6 +41,11 @@ impl fmt::Display for CityError {
 impl Error for CityError {}
 
 impl From<ValueError> for CityError {
+    ghost use Rattle.std.specs.Prelude.{◌≡◌};
+    ghost use Rattle.iris_json.specs.Errors.{city_error};
+
+    ghost from_gives = { λ error e. e ≡ city_error error };
+
     fn from(error: ValueError) -> CityError {
         match error {
             ValueError::NotJson => SHAPE,
@@ -50,24 +55,44 @@ impl From<ValueError> for CityError {
 }
 
 impl From<Memory> for CityError {
+    ghost use Rattle.std.specs.Prelude.{◌≡◌};
+    ghost use Rattle.iris_json.specs.declared.city.CityError.TheVariants.{Memory};
+
+    ghost from_gives = { λ _ e. e ≡ Memory };
+
     fn from(_error: Memory) -> CityError {
         CityError::Memory
     }
 }
 
 impl From<AllocError> for CityError {
+    ghost use Rattle.std.specs.Prelude.{◌≡◌};
+    ghost use Rattle.iris_json.specs.declared.city.CityError.TheVariants.{Memory};
+
+    ghost from_gives = { λ _ e. e ≡ Memory };
+
     fn from(_error: AllocError) -> CityError {
         CityError::Memory
     }
 }
 
 impl<T: Drop> From<AllocFailed<T>> for CityError {
+    ghost use Rattle.std.specs.Prelude.{◌≡◌};
+    ghost use Rattle.iris_json.specs.declared.city.CityError.TheVariants.{Memory};
+
+    ghost from_gives = { λ _ e. e ≡ Memory };
+
     fn from(_error: AllocFailed<T>) -> CityError {
         CityError::Memory
     }
 }
 
 impl From<TextError> for CityError {
+    ghost use Rattle.std.specs.Prelude.{◌≡◌};
+    ghost use Rattle.iris_json.specs.Errors.{text_error};
+
+    ghost from_gives = { λ error e. e ≡ text_error error };
+
     fn from(error: TextError) -> CityError {
         match error {
             TextError::BadText { .. } => SHAPE,

@@ -1,5 +1,12 @@
 //! The members of a JSON object.
-ghost use Rattle.std.specs.Prelude.{◌≡◌};
+ghost use Rattle.std.specs.Prelude.{◌≡◌, map, string_bytes, Err, IfOk, option_map, option_and_then};
+ghost use Rattle.std.specs.BTreeMap.{keys};
+ghost use Rattle.std.specs.List.{list_all, list_any};
+ghost use Rattle.std.specs.Str.{bytes_eq};
+ghost use Rattle.serde_json.specs.Data.{Data};
+ghost use Rattle.serde_json.specs.Find.{get_member, as_str, as_array};
+ghost use Rattle.serde_json.specs.View.{view, items_view, members_view};
+ghost use Rattle.iris_json.specs.Lines.{IsJson, all_among};
 
 use serde_json::{Map, Value};
 use std::alloc::Global;
@@ -14,7 +21,10 @@ pub enum ValueError {
 }
 
 /// The value of a JSON text.
-pub fn read_value(alloc: Global, bytes: &[u8]) -> Result<Value, ValueError> {
+pub fn read_value(alloc: Global, bytes: &[u8]) -> Result<Value, ValueError>
+    ensures found { IfOk result (λ value. IsJson bytes.now (view value)) }
+    ensures not_json { result ≡ Err ValueError.NotJson → (d : Data) → IsJson bytes.now d → ⊥ }
+{
     match Value::from_slice(alloc, bytes) {
         Ok(value) => Ok(value),
         Err(error) => {
@@ -30,25 +40,47 @@ pub fn read_value(alloc: Global, bytes: &[u8]) -> Result<Value, ValueError> {
 /// An object as `serde_json` reads it: each key once, the last value of equal keys.
 pub type Members = Map<String, Value>;
 
+// Whether the key is one of these.
+fn is_among(keys: &[&str], key: &str) -> bool
+    ensures { result ≡ list_any (λ known. bytes_eq known.now key.now) keys.now }
+{
+    keys.iter().any(|known| *known == key)
+}
+
+// Whether each key of the map is one of these.
+fn are_among(members: &Members, known: &[&str]) -> bool
+    ensures { result ≡ list_all (λ key. list_any (λ k. bytes_eq k.now (string_bytes key)) known.now) (keys members.now) }
+{
+    members.keys().all(|key| is_among(known, key.as_str()))
+}
+
 /// Whether each key of the object is one of these.
-pub fn has_only(object: &Members, keys: &[&str]) -> bool {
-    object
-        .keys()
-        .all(|key| keys.iter().any(|known| *known == key.as_str()))
+pub fn has_only(members: &Members, known: &[&str]) -> bool
+    ensures { result ≡ all_among (map (λ key. key.now) known.now) (members_view members.now.entries) }
+{
+    are_among(members, known)
+}
+
+/// The value at a key; none where the key is missing.
+pub fn value_at<'a>(members: &'a Members, key: &str) -> Option<&'a Value>
+    ensures { option_map (λ value. view value.now) result ≡ get_member key.now (members_view members.now.entries) }
+{
+    members.get(key)
 }
 
 /// The text at a key; none where the key is missing or its value is no text.
-pub fn text_at<'a>(object: &'a Members, key: &str) -> Option<&'a str> {
-    match object.get(key) {
-        Some(Value::String(text)) => Some(text.as_str()),
-        _ => None,
-    }
+pub fn text_at<'a>(members: &'a Members, key: &str) -> Option<&'a str>
+    ensures { option_map (λ text. text.now) result ≡ option_and_then as_str (get_member key.now (members_view members.now.entries)) }
+{
+    value_at(members, key).and_then(Value::as_str)
 }
 
 /// The list at a key; none where the key is missing or its value is no list.
-pub fn list_at<'a>(object: &'a Members, key: &str) -> Option<&'a [Value]> {
-    match object.get(key) {
-        Some(Value::Array(items)) => Some(items.as_slice()),
-        _ => None,
+pub fn list_at<'a>(members: &'a Members, key: &str) -> Option<&'a [Value]>
+    ensures { option_map (λ items. items_view items.now) result ≡ option_and_then as_array (get_member key.now (members_view members.now.entries)) }
+{
+    match value_at(members, key).and_then(Value::as_array) {
+        Some(items) => Some(items.as_slice()),
+        None => None,
     }
 }

@@ -1,5 +1,8 @@
 //! The lines of a script after the first.
-ghost use Rattle.std.specs.Prelude.{◌≡◌};
+ghost use Rattle.std.specs.Prelude.{◌≡◌, IfOk};
+ghost use Rattle.serde_json.specs.Data.{object};
+ghost use Rattle.serde_json.specs.View.{members_view};
+ghost use Rattle.iris_json.specs.Lines.{IsLine, ReadsLine, GivesLine};
 
 use crate::keys::{Members, ValueError, has_only, read_value, text_at};
 use iris_tree::{Text, TextError};
@@ -48,6 +51,11 @@ impl fmt::Display for LineError {
 impl Error for LineError {}
 
 impl From<ValueError> for LineError {
+    ghost use Rattle.std.specs.Prelude.{◌≡◌};
+    ghost use Rattle.iris_json.specs.Errors.{line_error};
+
+    ghost from_gives = { λ error e. e ≡ line_error error };
+
     fn from(error: ValueError) -> LineError {
         match error {
             ValueError::NotJson => SHAPE,
@@ -57,10 +65,13 @@ impl From<ValueError> for LineError {
 }
 
 // The line that an object is.
-fn line_of(alloc: Global, object: &Members) -> Result<Line, LineError> {
-    match text_at(object, "do") {
-        Some("query") if has_only(object, &["do", "query"]) => {
-            let Some(query) = text_at(object, "query") else {
+fn line_of(alloc: Global, members: &Members) -> Result<Line, LineError>
+    ensures found { IfOk result (λ line. IsLine (object (members_view members.now.entries)) line) }
+    ensures only { (line : Line) → IsLine (object (members_view members.now.entries)) line → GivesLine result line }
+{
+    match text_at(members, "do") {
+        Some("query") if has_only(members, &["do", "query"]) => {
+            let Some(query) = text_at(members, "query") else {
                 return Err(SHAPE);
             };
             match Text::new(alloc, query) {
@@ -68,7 +79,7 @@ fn line_of(alloc: Global, object: &Members) -> Result<Line, LineError> {
                 Err(_) => Err(LineError::Memory),
             }
         }
-        Some("settle") if has_only(object, &["do"]) => Ok(Line::Settle),
+        Some("settle") if has_only(members, &["do"]) => Ok(Line::Settle),
         _ => Err(SHAPE),
     }
 }
@@ -76,10 +87,13 @@ fn line_of(alloc: Global, object: &Members) -> Result<Line, LineError> {
 /// Reads a line of a script after the first, without its LF: an object with the key `do`, which is
 /// `query` with the text `query`, or `settle`, and no other key. Otherwise, and where the bytes are no
 /// JSON, it is `BadLine`.
-pub fn read_line(alloc: Global, bytes: &[u8]) -> Result<Line, LineError> {
+pub fn read_line(alloc: Global, bytes: &[u8]) -> Result<Line, LineError>
+    ensures found { IfOk result (λ line. ReadsLine bytes.now line) }
+    ensures only { (line : Line) → ReadsLine bytes.now line → GivesLine result line }
+{
     let value = read_value(alloc, bytes)?;
     match value.as_object() {
-        Some(object) => line_of(alloc, object),
+        Some(members) => line_of(alloc, members),
         None => Err(SHAPE),
     }
 }

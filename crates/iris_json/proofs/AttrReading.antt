@@ -1,0 +1,100 @@
+-- From the members of an object to attributes.
+use Rattle.std.proofs.Common.{◌≡◌, ℕ, zero, suc, ◌<◌, ◌≤◌, List, [], ◌∷◌, ◌++◌, length, map, String, Global, Ordering, Less, Equal, Greater, string_bytes, string_cmp, nat_cmp, Option, Some, None, Bor, Result, Ok, Err, refl, ap, sym, ◌∙◌, subst, arith}
+use Rattle.std.specs.BTreeMap.{insert_entry}
+use Rattle.std.specs.Cmp.Lexicographic.{slice_cmp}
+use Rattle.std.specs.List.{AllByRecursion}
+use Rattle.std.specs.List.Sorted.{IsStrictlySortedBy}
+use Rattle.std.specs.Map.{keys_of}
+use Rattle.std.specs.Ordering.{match_ordering}
+use Rattle.std.specs.Iterator.{Yields}
+use Rattle.std.specs.Map.Iter.{TakesFirst, deref_pair}
+use Rattle.std.proofs.lemmas.Map.Iter.{rest_so_far, rest_more}
+use Rattle.serde_json.specs.declared.value.Value.{Value}
+use Rattle.serde_json.specs.Data.{Data, string, Members, no_members, member, put}
+use Rattle.serde_json.specs.View.{view, members_view}
+use Rattle.serde_json.proofs.Views.{Entry, put_last}
+use Rattle.iris_tree.specs.Attrs.{Pairs, with_attr}
+use Rattle.iris_tree.specs.LocalText.{attrs_members}
+use Rattle.iris_json.specs.declared.city.CityError.{CityError}
+use Rattle.iris_json.specs.declared.city.CityError.TheVariants.{BadCity, Memory}
+use Rattle.iris_json.specs.CityLine.{IsAttrName, AreAttrs, Gives}
+
+-- an error that one reader may give another may give too
+pub same_error : {X Y : Type 0} (e : CityError) (x : X) (y : Y) → Gives (Err e) x → Gives (Err e) y
+same_error (BadCity why) x y h = absurd h
+same_error Memory x y h = tt
+
+members-match_ordering : (o : Ordering) (a b c : Pairs) → attrs_members (match_ordering o a b c) ≡ match_ordering o (attrs_members a) (attrs_members b) (attrs_members c)
+members-match_ordering Less a b c = refl
+members-match_ordering Equal a b c = refl
+members-match_ordering Greater a b c = refl
+
+members-with_attr : (pairs : Pairs) (name text : List ℕ) → attrs_members (with_attr pairs name text) ≡ put name (string text) (attrs_members pairs)
+members-with_attr [] name text = refl
+members-with_attr (p ∷ pairs) name text = members-match_ordering (slice_cmp nat_cmp name p.0) _ _ _ ∙ rw (members-with_attr pairs name text) refl
+
+-- an attribute whose name is above those before it goes last
+attr_last : (done : List Entry) (e : Entry) (more : List Entry) (pairs : Pairs) (text : List ℕ) → IsStrictlySortedBy string_cmp (keys_of (done ++ e ∷ more)) → members_view done ≡ attrs_members pairs → view e.1 ≡ string text
+    → members_view (done ++ e ∷ []) ≡ attrs_members (with_attr pairs (string_bytes e.0) text)
+attr_last done e more pairs text sorted same is =
+    sym (put_last done e more sorted) ∙ rw (same, is) (sym (members-with_attr pairs (string_bytes e.0) text))
+
+all-match_ordering : (P : List ℕ × List ℕ → Type 0) (o : Ordering) (a b c : Pairs) → AllByRecursion P a → AllByRecursion P b → AllByRecursion P c → AllByRecursion P (match_ordering o a b c)
+all-match_ordering P Less a b c ha hb hc = ha
+all-match_ordering P Equal a b c ha hb hc = hb
+all-match_ordering P Greater a b c ha hb hc = hc
+
+-- one more name
+named_more : (pairs : Pairs) (name text : List ℕ) → IsAttrName name → AllByRecursion (λ p. IsAttrName p.0) pairs → AllByRecursion (λ p. IsAttrName p.0) (with_attr pairs name text)
+named_more [] name text h all = (h, tt)
+named_more (p ∷ pairs) name text h all = all-match_ordering (λ p. IsAttrName p.0) (slice_cmp nat_cmp name p.0) _ _ _ (h, all) all (all.0, named_more pairs name text h all.1)
+
+-- a loop over members has read one attribute more
+pub attr_step : (done : List Entry) (e : Entry) (more : List Entry) (pairs new : Pairs) (name tag text : List ℕ) → IsStrictlySortedBy string_cmp (keys_of (done ++ e ∷ more))
+    → (members_view done ≡ attrs_members pairs) × AllByRecursion (λ p. IsAttrName p.0) pairs → name ≡ string_bytes e.0
+    → (tag ≡ name) × IsAttrName name × (view e.1 ≡ string text) → new ≡ with_attr pairs tag text
+    → (members_view (done ++ e ∷ []) ≡ attrs_members new) × AllByRecursion (λ p. IsAttrName p.0) new
+attr_step done e more pairs new name tag text sorted so_far named read is =
+    let tag_is : tag ≡ string_bytes e.0 = read.0 ∙ named in
+    let new_is : new ≡ with_attr pairs (string_bytes e.0) text = is ∙ ap (λ (t : List ℕ). with_attr pairs t text) tag_is in (
+      attr_last done e more pairs text sorted so_far.0 read.2 ∙ ap attrs_members (sym new_is),
+      subst (AllByRecursion (λ (p : List ℕ × List ℕ). IsAttrName p.0)) (sym new_is) (named_more pairs (string_bytes e.0) text (subst IsAttrName named read.1) so_far.1),
+    )
+
+-- the members before an item of a loop, the item, and those after it
+pub turn : (es : List Entry) (xs : List (Bor (String Global) × Bor Value)) (s t u : List Entry) (r : Option (Bor (String Global) × Bor Value)) (x : Bor (String Global) × Bor Value)
+    → s ≡ es → Yields (TakesFirst deref_pair) s xs t → r ≡ Some x → TakesFirst deref_pair t r u → es ≡ map deref_pair xs ++ deref_pair x ∷ u
+turn es xs s t u r x start yielded is step =
+    sym start ∙ rest_so_far deref_pair xs s t yielded ∙ ap (λ (rest : List Entry). map deref_pair xs ++ rest) (rest_more deref_pair t u r x is step)
+
+-- there are as many attributes as members
+pub attrs_len : (es : List Entry) (pairs : Pairs) → members_view es ≡ attrs_members pairs → length pairs ≡ length es
+attrs_len [] [] same = refl
+attrs_len [] (p ∷ pairs) same = absurd (cc)
+attrs_len (e ∷ es) [] same = absurd (cc)
+attrs_len (e ∷ es) (p ∷ pairs) same = let rest : members_view es ≡ attrs_members pairs = cc in ap suc (attrs_len es pairs rest)
+
+-- members are those of one list of attributes
+pub attrs_same : (pairs others : Pairs) → attrs_members pairs ≡ attrs_members others → pairs ≡ others
+attrs_same [] [] same = refl
+attrs_same [] (q ∷ others) same = absurd (cc)
+attrs_same (p ∷ pairs) [] same = absurd (cc)
+attrs_same (p ∷ pairs) (q ∷ others) same =
+    let rest : attrs_members pairs ≡ attrs_members others = cc in
+    let left : p.0 ≡ q.0 = cc in
+    let right : p.1 ≡ q.1 = cc in
+    let tail = attrs_same pairs others rest in
+    rw (left, right, tail) refl
+
+-- a member that is an attribute has a name of the form and a text
+pub attr_here : (done : List Entry) (e : Entry) (more : List Entry) (pairs : Pairs) → members_view (done ++ e ∷ more) ≡ attrs_members pairs → AllByRecursion (λ p. IsAttrName p.0) pairs
+    → (text : List ℕ) × IsAttrName (string_bytes e.0) × (view e.1 ≡ string text)
+attr_here [] e more [] same named = absurd (cc)
+attr_here [] e more (p ∷ pairs) same named =
+    let name : p.0 ≡ string_bytes e.0 = cc in
+    let is : view e.1 ≡ string p.1 = cc in
+    (p.1, subst IsAttrName name named.0, is)
+attr_here (d ∷ done) e more [] same named = absurd (cc)
+attr_here (d ∷ done) e more (p ∷ pairs) same named =
+    let rest : members_view (done ++ e ∷ more) ≡ attrs_members pairs = cc in
+    attr_here done e more pairs rest named.1

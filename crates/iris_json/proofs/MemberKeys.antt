@@ -1,0 +1,18 @@
+-- The members of an object, and the keys that it may have.
+use Rattle.std.proofs.Common.{◌≡◌, ℕ, List, [], ◌∷◌, ◌&&◌, ◌||◌, Bool, refl, ap, map, String, Global, Bor, bytes_eq, string_bytes}
+use Rattle.std.specs.List.{list_any, list_all}
+use Rattle.serde_json.specs.declared.value.Value.{Value}
+use Rattle.serde_json.specs.View.{members_view}
+use Rattle.iris_json.specs.Lines.{is_among, all_among}
+
+-- a test of the texts that references lead to
+any_of_texts : (key : List ℕ) (known : List (Bor (List ℕ))) → list_any (λ (k : Bor (List ℕ)). bytes_eq k.now key) known ≡ is_among (map (λ (k : Bor (List ℕ)). k.now) known) key
+any_of_texts key [] = refl
+any_of_texts key (k ∷ known) = ap (λ b. bytes_eq k.now key || b) (any_of_texts key known)
+
+-- a test of the keys of a map is one of the members that it is seen as
+pub all_of_keys : (known : List (Bor (List ℕ))) (es : List (String Global × Value))
+    → list_all (λ key. list_any (λ (k : Bor (List ℕ)). bytes_eq k.now (string_bytes key)) known) (map (λ (e : String Global × Value). e.0) es)
+    ≡ all_among (map (λ (k : Bor (List ℕ)). k.now) known) (members_view es)
+all_of_keys known [] = refl
+all_of_keys known (e ∷ es) = rw (any_of_texts (string_bytes e.0) known, all_of_keys known es) refl
