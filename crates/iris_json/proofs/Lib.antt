@@ -3,3 +3,5 @@ pub mod LineReading
 pub mod AttrReading
 pub mod LabelReading
 pub mod NodeReading
+pub mod KindReading
+pub mod CityReading
