@@ -9,7 +9,7 @@ use Rattle.iris_json.specs.declared.city.CityError.{CityError}
 use Rattle.iris_json.specs.declared.city.CityError.TheVariants.{BadCity, Memory}
 use Rattle.iris_json.specs.Lines.{IsJson}
 use Rattle.iris_json.specs.CityLine.{PlaceAt, TreeAt, IsCity, ReadsCity, IsHeldBy, Gives, GivesCity}
-use Rattle.iris_json.proofs.LineReading.{json_unique, object_of, no_object}
+use Rattle.iris_json.proofs.LineReading.{json_unique, object_of}
 
 -- an error that a reader of a part may give the reader of the city may give too
 pub city_refused : {X : Type 0} (e : CityError) (x : X) (kinds : List (List ℕ)) (agent : List ℕ) (tree : Node) → Gives (Err e) x → GivesCity (Err e) kinds agent tree
@@ -45,9 +45,3 @@ pub city_only : (bytes : List ℕ) (d : Data) (ms : Members) (r : Result City Ci
     → (kinds : List (List ℕ)) (agent : List ℕ) (tree : Node) → ReadsCity bytes kinds agent tree → GivesCity r kinds agent tree
 city_only bytes d ms r j o h kinds agent tree reads =
     h kinds agent tree (subst (λ (v : Data). IsCity v kinds agent tree) (json_unique bytes reads.1.0 d reads.1.1 j ∙ object_of d ms o) reads.1.2)
-
--- a value without members is no city
-pub no_city : (bytes : List ℕ) (d : Data) → IsJson bytes d → None ≡ as_object d → (kinds : List (List ℕ)) (agent : List ℕ) (tree : Node) → ReadsCity bytes kinds agent tree → ⊥
-no_city bytes d j o kinds agent tree reads =
-    let is : IsCity d kinds agent tree = subst (λ (v : Data). IsCity v kinds agent tree) (json_unique bytes reads.1.0 d reads.1.1 j) reads.1.2 in
-    no_object (codes "kinds" ∷ codes "agents" ∷ codes "place" ∷ codes "tree" ∷ []) d o is.keys

@@ -1,5 +1,5 @@
 use Rattle.iris_json.proofs.CityReading.{city_found, city_only}
-use Rattle.iris_json.proofs.city.read_city.Goals as goal
+use Rattle.iris_json.proofs.city_line.read_city.Goals as goal
 
 pub returns-in-Some-clause-found : goal.returns-in-Some-clause-found
 returns-in-Some-clause-found c = city_found _ _ _ _ c.if-bytes-gt-MOST_BYTES.false c.in_ok-value.ensures.found c.in-Some.ensures c.city_of.ensures.found

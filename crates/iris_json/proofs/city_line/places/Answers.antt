@@ -1,6 +1,6 @@
 use Rattle.std.proofs.Common.{ap, sym, length, arith, true≢false}
 use Rattle.iris_json.proofs.KindReading.{no_pair}
-use Rattle.iris_json.proofs.city.places.Goals as goal
+use Rattle.iris_json.proofs.city_line.places.Goals as goal
 
 pub returns-in_default-as_slice : goal.returns-in_default-as_slice
 returns-in_default-as_slice c = (

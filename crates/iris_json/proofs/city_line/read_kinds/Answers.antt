@@ -3,8 +3,8 @@ use Rattle.std.specs.List.{list_any}
 use Rattle.std.proofs.lemmas.Result.{err_from_is_err_and}
 use Rattle.iris_json.proofs.AttrReading.{same_error}
 use Rattle.iris_json.proofs.KindReading.{empty, not_empty, kinds_len, so_start, so_step, so_found, so_only, next_kind}
-use Rattle.iris_json.proofs.city.read_kinds.Goals as goal
-use Rattle.iris_json.proofs.city.read_kinds.Goals.{then-is_empty-via-then-is_empty, then-is_empty-via-else-is_empty+then-items-gt-MOST_KINDS}
+use Rattle.iris_json.proofs.city_line.read_kinds.Goals as goal
+use Rattle.iris_json.proofs.city_line.read_kinds.Goals.{then-is_empty-via-then-is_empty, then-is_empty-via-else-is_empty+then-items-gt-MOST_KINDS}
 
 pub returns-then-is_empty-clause-only : goal.returns-then-is_empty-clause-only
 returns-then-is_empty-clause-only c kinds has =

@@ -4,7 +4,7 @@ use Rattle.serde_json.specs.Data.{object}
 use Rattle.serde_json.specs.View.{members_view}
 use Rattle.iris_tree.specs.Universe.{label_of}
 use Rattle.iris_json.proofs.CityReading.{city_refused, place_read, tree_read, one_agent, one_place}
-use Rattle.iris_json.proofs.city.city_of.Goals as goal
+use Rattle.iris_json.proofs.city_line.city_of.Goals as goal
 
 pub returns-in_err-tree-clause-only : goal.returns-in_err-tree-clause-only
 returns-in_err-tree-clause-only c kinds agent tree is =
