@@ -1,4 +1,6 @@
 pub mod AttrReading
+pub mod CityReading
+pub mod KindReading
 pub mod LabelReading
 pub mod LineReading
 pub mod MemberKeys

@@ -20,15 +20,6 @@ object_of (string s) ms h = absurd (cc)
 object_of (array ds) ms h = absurd (cc)
 object_of (object ns) ms h = cc
 
--- a value without members has no only keys
-pub no_object : (keys : List (List ℕ)) (d : Data) → None ≡ as_object d → has_only keys d ≡ true → ⊥
-no_object keys null h k = cc
-no_object keys (boolean b) h k = cc
-no_object keys (number n) h k = cc
-no_object keys (string s) h k = cc
-no_object keys (array ds) h k = cc
-no_object keys (object ms) h k = cc
-
 pub line_found : (bytes : List ℕ) (d : Data) (ms : Members) (r : Result Line LineError) → IsJson bytes d → Some ms ≡ as_object d → IfOk r (λ line. IsLine (object ms) line) → IfOk r (λ line. ReadsLine bytes line)
 line_found bytes d ms (Ok line) j o h = (object ms, subst (IsJson bytes) (object_of d ms o) j, h)
 line_found bytes d ms (Err e) j o h = tt
@@ -36,10 +27,3 @@ line_found bytes d ms (Err e) j o h = tt
 pub line_only : (bytes : List ℕ) (d : Data) (ms : Members) (r : Result Line LineError) → IsJson bytes d → Some ms ≡ as_object d → ((line : Line) → IsLine (object ms) line → GivesLine r line) → (line : Line) → ReadsLine bytes line → GivesLine r line
 line_only bytes d ms r j o h line reads =
     h line (subst (λ (v : Data). IsLine v line) (json_unique bytes reads.0 d reads.1 j ∙ object_of d ms o) reads.2)
-
-is_no_line : (d : Data) (line : Line) → None ≡ as_object d → IsLine d line → ⊥
-is_no_line d (Query query) o is = no_object (codes "do" ∷ codes "query" ∷ []) d o is.0
-is_no_line d Settle o is = no_object (codes "do" ∷ []) d o is.0
-
-pub line_refused : (bytes : List ℕ) (d : Data) → IsJson bytes d → None ≡ as_object d → (line : Line) → ReadsLine bytes line → ⊥
-line_refused bytes d j o line reads = is_no_line d line o (subst (λ (v : Data). IsLine v line) (json_unique bytes reads.0 d reads.1 j) reads.2)

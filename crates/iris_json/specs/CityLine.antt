@@ -14,6 +14,7 @@ use Rattle.iris_tree.specs.Attrs.{Pairs}
 use Rattle.iris_tree.specs.LocalText.{attrs_data, local_text}
 use Rattle.iris_tree.specs.Universe.{Node, node, nodes_of, label_of, labels_of, insert_node}
 use Rattle.iris_tree.specs.NodeCode.{size_of}
+use Rattle.iris_json.specs.declared.city.City.{City}
 use Rattle.iris_json.specs.declared.city.CityError.{CityError}
 use Rattle.iris_json.specs.declared.city.CityError.TheVariants.{BadCity, Memory}
 use Rattle.iris_json.specs.Lines.{IsJson, has_only}
@@ -90,16 +91,21 @@ mutual
     none : (levels : ℕ) → AreNodes kinds levels no_items []
     more : (levels : ℕ) (d : Data) (n : Node) (items : Items) (ns : List Node) → IsNode kinds levels d n → AreNodes kinds levels items ns → AreNodes kinds levels (item d items) (n ∷ ns)
 
+-- the node at the key `tree`, of at most 16 levels and 20,000 nodes
+abbrev pub TreeAt : List (List ℕ) → Data → Node → Type 0
+TreeAt kinds d tree = (value : Data) × (get (codes "tree") d ≡ Some value) × IsNode kinds 16 value tree × (size_of tree ≤ 20000)
+
+-- the one pair of the top node's name and the agent at the key `place`
+abbrev pub PlaceAt : Data → Label → List ℕ → Type 0
+PlaceAt d top agent = get (codes "place") d ≡ Some (array (item (texts (name_text (top ∷ []) ∷ agent ∷ [])) no_items))
+
 -- a value is the line of a city of one agent, which is placed at the top node
 pub record IsCity (d : Data) (kinds : List (List ℕ)) (agent : List ℕ) (tree : Node) : Type 0 where
   pub keys : has_only (codes "kinds" ∷ codes "agents" ∷ codes "place" ∷ codes "tree" ∷ []) d ≡ true
   pub kinds_at : KindsAt d kinds
   pub agent_at : AgentAt d agent
-  pub place_at : get (codes "place") d ≡ Some (array (item (texts (name_text (label_of tree ∷ []) ∷ agent ∷ [])) no_items))
-  pub node : Data
-  pub tree_at : get (codes "tree") d ≡ Some node
-  pub is_tree : IsNode kinds 16 node tree
-  pub few : size_of tree ≤ 20000
+  pub tree_at : TreeAt kinds d tree
+  pub place_at : PlaceAt d (label_of tree) agent
 
 -- the bytes are a spelling of the city line, of at most 4,194,304 bytes
 abbrev pub ReadsCity : List ℕ → List (List ℕ) → List ℕ → Node → Type 0
@@ -110,3 +116,13 @@ abbrev pub Gives : {X : Type 0} → Result X CityError → X → Type 0
 Gives (Ok found) x = found ≡ x
 Gives (Err (BadCity why)) x = ⊥
 Gives (Err Memory) x = Unit {0}
+
+-- the agent holds the whole city
+abbrev pub IsHeldBy : City → List ℕ → Type 0
+IsHeldBy city agent = (city.agents ≡ agent ∷ []) × (city.place ≡ (label_of city.tree ∷ [], agent) ∷ [])
+
+-- a reader gives that city, unless there was no memory
+abbrev pub GivesCity : Result City CityError → List (List ℕ) → List ℕ → Node → Type 0
+GivesCity (Ok city) kinds agent tree = (city.kinds ≡ kinds) × (city.tree ≡ tree) × IsHeldBy city agent
+GivesCity (Err (BadCity why)) kinds agent tree = ⊥
+GivesCity (Err Memory) kinds agent tree = Unit {0}

@@ -1,9 +1,9 @@
 //! The members of a JSON object.
-ghost use Rattle.std.specs.Prelude.{◌≡◌, map, string_bytes, Err, IfOk, option_map, option_and_then};
+ghost use Rattle.std.specs.Prelude.{◌≡◌, ◌≢◌, map, string_bytes, Some, None, Err, IfOk, IfSome, option_map, option_and_then};
 ghost use Rattle.std.specs.BTreeMap.{keys};
 ghost use Rattle.std.specs.List.{list_all, list_any};
 ghost use Rattle.std.specs.Str.{bytes_eq};
-ghost use Rattle.serde_json.specs.Data.{Data};
+ghost use Rattle.serde_json.specs.Data.{Data, array, item, no_items};
 ghost use Rattle.serde_json.specs.Find.{get_member, as_str, as_array};
 ghost use Rattle.serde_json.specs.View.{view, items_view, members_view};
 ghost use Rattle.iris_json.specs.Lines.{IsJson, all_among};
@@ -82,5 +82,19 @@ pub fn list_at<'a>(members: &'a Members, key: &str) -> Option<&'a [Value]>
     match value_at(members, key).and_then(Value::as_array) {
         Some(items) => Some(items.as_slice()),
         None => None,
+    }
+}
+
+/// The value at a key whose value is a list of that one; none where the key is missing or its value is
+/// no such list.
+pub fn sole_at<'a>(members: &'a Members, key: &str) -> Option<&'a Value>
+    ensures found { IfSome result (λ value. get_member key.now (members_view members.now.entries) ≡ Some (array (item (view value.now) no_items))) }
+    ensures missing { result ≡ None → (d : Data) → get_member key.now (members_view members.now.entries) ≢ Some (array (item d no_items)) }
+{
+    let items = list_at(members, key)?;
+    if items.len() == 1 {
+        Some(&items[0])
+    } else {
+        None
     }
 }

@@ -2,6 +2,7 @@
 #![tactic(auto)]
 
 mod city;
+mod city_line;
 mod item;
 mod keys;
 mod line;
@@ -9,8 +10,11 @@ mod node;
 mod out;
 #[cfg(test)]
 mod tests;
+#[cfg(test)]
+mod tests_read;
 
-pub use city::{City, CityError, CityWhy, read_city};
+pub use city::{City, CityError, CityWhy};
+pub use city_line::read_city;
 pub use item::{Element, Item, write_items, write_tree};
 pub use line::{Line, LineError, LineWhy, read_line};
 pub use out::{Cite, Out, Which, Why, write_out};

@@ -1,0 +1,37 @@
+use Rattle.std.proofs.Common.{ap, ◌∙◌}
+use Rattle.std.proofs.lemmas.Result.{err_from_is_err_and}
+use Rattle.serde_json.specs.Data.{object}
+use Rattle.serde_json.specs.View.{members_view}
+use Rattle.iris_tree.specs.Universe.{label_of}
+use Rattle.iris_json.proofs.CityReading.{city_refused, place_read, tree_read, one_agent, one_place}
+use Rattle.iris_json.proofs.city_line.city_of.Goals as goal
+
+pub returns-in_err-tree-clause-only : goal.returns-in_err-tree-clause-only
+returns-in_err-tree-clause-only c kinds agent tree is =
+    let p = err_from_is_err_and c.from_residual-in_err-tree.result c.from_residual-in_err-tree.ensures.1 in
+    let same_kinds = c.as_slice.ensures ∙ c.in_ok-kinds.ensures.only kinds is.kinds_at in
+    let at = tree_read (object (members_view c.args.members.now.entries)) _ kinds tree same_kinds is.tree_at in
+    rw (p.1, p.2) (city_refused _ tree kinds agent tree (c.in_err-tree.ensures.only tree at))
+
+pub returns-in_err-top-clause-only : goal.returns-in_err-top-clause-only
+returns-in_err-top-clause-only c kinds agent tree is =
+    let p = err_from_is_err_and c.from_residual-in_err-top.result c.from_residual-in_err-top.ensures.1 in
+    let same_kinds = c.as_slice.ensures ∙ c.in_ok-kinds.ensures.only kinds is.kinds_at in
+    let at = tree_read (object (members_view c.args.members.now.entries)) _ kinds tree same_kinds is.tree_at in
+    let same_tree = c.in_ok-tree.ensures.only tree at in
+    let placed = place_read (object (members_view c.args.members.now.entries)) _ _ _ _ (c.label.ensures ∙ ap label_of same_tree) (c.in_ok-agent.ensures.only agent is.agent_at) is.place_at in
+    rw (p.1, p.2) (city_refused _ _ kinds agent tree (c.in_err-top.ensures.only placed))
+
+pub returns-clause-only : goal.returns-clause-only
+returns-clause-only c kinds agent tree is =
+    let same_kinds = c.in_ok-kinds.ensures.only kinds is.kinds_at in
+    let at = tree_read (object (members_view c.args.members.now.entries)) _ kinds tree (c.as_slice.ensures ∙ same_kinds) is.tree_at in
+    let same_tree = c.in_ok-tree.ensures.only tree at in
+    let same_agent = c.in_ok-agent.ensures.only agent is.agent_at in (
+      same_kinds,
+      same_tree,
+      (
+        one_agent _ _ _ agent c.in_ok-push.ensures.ok c.new-agents.ensures same_agent,
+        one_place _ _ _ _ _ _ agent c.in_ok-push-2.ensures.ok c.new-place.ensures c.in_ok-top.ensures.found.0 c.label.ensures same_agent,
+      ),
+    )

@@ -1,0 +1,271 @@
+//! The readers, once each, and what they refuse.
+
+use crate::city::{CityError, CityWhy};
+use crate::city_line::read_city;
+use crate::line::{Line, LineError, LineWhy, read_line};
+use iris_tree::{Id, Kind, Label, Name, Tree};
+use std::alloc::{AllocError, Global};
+use std::test::Fail;
+
+const BAD_LINE: LineError = LineError::BadLine {
+    why: LineWhy::Shape,
+};
+
+const CITY: &str =
+    r#"{"kinds":["city","hood","block","space"],"agents":["a"],"place":[["city-o","a"]],"tree":{"kind":"city","id":"o","nodes":[{"kind":"hood","id":"n","nodes":[{"kind":"block","id":"1","nodes":[{"kind":"space","id":"1","attrs":{"free":"no"}},{"kind":"space","id":"2","attrs":{"free":"yes"}},{"kind":"space","id":"3","attrs":{"free":"no"}}]}]}]}}"#;
+
+// What the attribute `free` of a space of the one block is.
+fn free<'a>(alloc: Global, tree: &'a Tree, space: &str) -> Result<Option<&'a str>, Fail> {
+    let mut name = Name::document(alloc);
+    for (kind, id) in [
+        ("city", "o"),
+        ("hood", "n"),
+        ("block", "1"),
+        ("space", space),
+    ] {
+        let kind = Kind::new(kind)?;
+        let id = Id::new(id)?;
+        name.push(Label { kind, id })?;
+    }
+    match tree.find(&name) {
+        Some(node) => Ok(node.local().attrs.get("free")),
+        None => Ok(None),
+    }
+}
+
+#[test]
+fn a_city(rt: HostRuntime) -> Result<(), Fail> {
+    let alloc = rt.alloc();
+    let city = read_city(alloc, CITY.as_bytes())?;
+    let mut kinds = Vec::new(alloc);
+    for kind in city.kinds.as_slice() {
+        kinds.push(kind.as_str())?;
+    }
+    assert_eq!(rt;
+        kinds.as_slice(),
+        ["city", "hood", "block", "space"].as_slice()
+    );
+    assert_eq!(rt; city.agents.len(), 1);
+    assert_eq!(rt; city.place.len(), 1);
+    for (name, agent) in city.place.as_slice() {
+        assert_eq!(rt; name.as_slice(), [*city.tree.label()].as_slice());
+        assert_eq!(rt; agent.as_str(), "a");
+    }
+    assert_eq!(rt; free(alloc, &city.tree, "1")?, Some("no"));
+    assert_eq!(rt; free(alloc, &city.tree, "2")?, Some("yes"));
+    assert_eq!(rt; free(alloc, &city.tree, "4")?, None);
+    Ok(())
+}
+
+#[test]
+fn both_lines(rt: HostRuntime) -> Result<(), Fail> {
+    let alloc = rt.alloc();
+    match read_line(alloc, br#"{"query":"/city[@id='o']","do":"query"}"#)? {
+        Line::Query { query } => assert_eq!(rt; query.as_str(), "/city[@id='o']"),
+        Line::Settle => assert!(rt; false),
+    }
+    let settles: [&[u8]; 4] = [
+        br#"{"do":"settle"}"#,
+        br#" { "do" : "settle" } "#,
+        br#"{"do":"x","do":"settle"}"#,
+        br#"{"d\u006f":"settle"}"#,
+    ];
+    for line in settles {
+        assert!(rt; matches!(read_line(alloc, line)?, Line::Settle));
+    }
+    Ok(())
+}
+
+#[test]
+fn no_lines(rt: HostRuntime) -> Result<(), Fail> {
+    let alloc = rt.alloc();
+    let nested = Vec::from_elem(alloc, b'[', 200)?;
+    let table: [&[u8]; 15] = [
+        b"",
+        b"null",
+        b"[]",
+        br#""settle""#,
+        br#"{}"#,
+        br#"{"do":null}"#,
+        br#"{"do":"x"}"#,
+        br#"{"do":"bound"}"#,
+        br#"{"do":"query"}"#,
+        br#"{"query":"/city"}"#,
+        br#"{"do":"settle","query":"/city"}"#,
+        br#"{"do":"query","query":"/city","to":"a"}"#,
+        br#"{"do":"query","query":1}"#,
+        b"{\"do\":\"settle\xff\"}",
+        nested.as_slice(),
+    ];
+    for (at, line) in table.iter().enumerate() {
+        match read_line(alloc, line) {
+            Err(error) => assert_eq!(rt; error, BAD_LINE, "at {at}"),
+            Ok(_) => assert!(rt; false, "at {at}"),
+        }
+    }
+    Ok(())
+}
+
+// Whether a line is the line of a city; no memory is an error.
+fn is_city(alloc: Global, line: &str) -> Result<bool, CityError> {
+    match read_city(alloc, line.as_bytes()) {
+        Ok(_) => Ok(true),
+        Err(
+            CityError::BadCity {
+                why: CityWhy::Shape,
+            },
+        ) => Ok(false),
+        Err(error) => Err(error),
+    }
+}
+
+#[test]
+fn no_cities(rt: HostRuntime) -> Result<(), Fail> {
+    let table = [
+        (
+            true,
+            r#"{"tree":{"id":"o","kind":"city"},"place":[["city-o","a"]],"kinds":["city"],"agents":["a"]}"#,
+        ),
+        (false, "[]"),
+        (
+            false,
+            r#"{"kinds":["city"],"agents":["a","b"],"place":[["city-o","a"]],"tree":{"kind":"city","id":"o"}}"#,
+        ),
+        (
+            false,
+            r#"{"kinds":["city"],"agents":["A"],"place":[["city-o","A"]],"tree":{"kind":"city","id":"o"}}"#,
+        ),
+        (
+            false,
+            r#"{"kinds":["city"],"agents":["a"],"tree":{"kind":"city","id":"o"}}"#,
+        ),
+        (
+            false,
+            r#"{"kinds":["city"],"agents":["a"],"place":[],"tree":{"kind":"city","id":"o"}}"#,
+        ),
+        (
+            false,
+            r#"{"kinds":["city"],"agents":["a"],"place":[["city-p","a"]],"tree":{"kind":"city","id":"o"}}"#,
+        ),
+        (
+            false,
+            r#"{"kinds":["city"],"agents":["a"],"place":[["city-o","b"]],"tree":{"kind":"city","id":"o"}}"#,
+        ),
+        (
+            false,
+            r#"{"kinds":["city","city"],"agents":["a"],"place":[["city-o","a"]],"tree":{"kind":"city","id":"o"}}"#,
+        ),
+        (
+            false,
+            r#"{"kinds":[],"agents":["a"],"place":[["city-o","a"]],"tree":{"kind":"city","id":"o"}}"#,
+        ),
+        (
+            true,
+            r#"{"kinds":["city","b","c","d","e","f","g","h","i","j","k","l","m","n","o","p"],"agents":["a"],"place":[["city-o","a"]],"tree":{"kind":"city","id":"o"}}"#,
+        ),
+        (
+            false,
+            r#"{"kinds":["city","b","c","d","e","f","g","h","i","j","k","l","m","n","o","p","q"],"agents":["a"],"place":[["city-o","a"]],"tree":{"kind":"city","id":"o"}}"#,
+        ),
+        (
+            false,
+            r#"{"kinds":["city"],"agents":["a"],"place":[["city-o","a"]],"tree":{"kind":"city","id":"o"},"plain":[]}"#,
+        ),
+        (
+            true,
+            r#"{"kinds":["city"],"agents":["a"],"place":[["city-o23456789012345678901234","a"]],"tree":{"kind":"city","id":"o23456789012345678901234"}}"#,
+        ),
+        (
+            false,
+            r#"{"kinds":["city"],"agents":["a"],"place":[["city-o234567890123456789012345","a"]],"tree":{"kind":"city","id":"o234567890123456789012345"}}"#,
+        ),
+    ];
+    for (at, (is, line)) in table.iter().enumerate() {
+        assert_eq!(rt; is_city(rt.alloc(), line)?, *is, "at {at}");
+    }
+    Ok(())
+}
+
+// The line of a city of the kinds `city` and `hood` whose top node has these members behind its label.
+fn city_with(alloc: Global, members: &str) -> Result<String, AllocError> {
+    let mut line = String::from_str(
+        alloc,
+        r#"{"kinds":["city","hood"],"agents":["a"],"place":[["city-o","a"]],"tree":{"kind":"city","id":"o""#,
+    )?;
+    line.push_str(members)?;
+    line.push_str("}}")?;
+    Ok(line)
+}
+
+#[test]
+fn no_nodes(rt: HostRuntime) -> Result<(), Fail> {
+    let alloc = rt.alloc();
+    let table = [
+        (true, ""),
+        (true, r#","attrs":{"name":"x"},"nodes":[]"#),
+        (false, r#","attrs":{"id":"x"}"#),
+        (false, r#","attrs":{"1":"x"}"#),
+        (false, r#","attrs":{"name":1e3}"#),
+        (false, r#","attrs":{"name":-0}"#),
+        (false, r#","attrs":{"name":1.0}"#),
+        (false, r#","attrs":null"#),
+        (false, r#","plain":[]"#),
+        (false, r#","nodes":null"#),
+        (false, r#","nodes":[{"kind":"space","id":"1"}]"#),
+        (
+            true,
+            r#","nodes":[{"kind":"hood","id":"1"},{"kind":"city","id":"1"}]"#,
+        ),
+        (
+            false,
+            r#","nodes":[{"kind":"hood","id":"1"},{"kind":"city","id":"1"},{"kind":"hood","id":"1"}]"#,
+        ),
+    ];
+    for (at, (is, members)) in table.iter().enumerate() {
+        let line = city_with(alloc, members)?;
+        assert_eq!(rt; is_city(alloc, line.as_str())?, *is, "at {at}");
+    }
+    Ok(())
+}
+
+#[test]
+fn limits_of_attributes(rt: HostRuntime) -> Result<(), Fail> {
+    let alloc = rt.alloc();
+    for (count, is) in [(64, true), (65, false)] {
+        let mut members = String::from_str(alloc, r#","attrs":{"a":"""#)?;
+        for i in 1..count {
+            let attr = format!(in alloc; ",\"a{i}\":\"\"")?;
+            members.push_str(attr.as_str())?;
+        }
+        members.push_str("}")?;
+        let line = city_with(alloc, members.as_str())?;
+        assert_eq!(rt; is_city(alloc, line.as_str())?, is, "with {count}");
+    }
+    for (length, is) in [(995, true), (996, false)] {
+        let mut members = String::from_str(alloc, r#","attrs":{"a":""#)?;
+        for _ in 0..length {
+            members.push_str("x")?;
+        }
+        members.push_str("\"}")?;
+        let line = city_with(alloc, members.as_str())?;
+        assert_eq!(rt; is_city(alloc, line.as_str())?, is, "with {length}");
+    }
+    Ok(())
+}
+
+#[test]
+fn limit_of_levels(rt: HostRuntime) -> Result<(), Fail> {
+    let alloc = rt.alloc();
+    for (levels, is) in [(16, true), (17, false)] {
+        let mut members = String::new(alloc);
+        for _ in 1..levels {
+            members.push_str(r#","nodes":[{"kind":"hood","id":"n""#)?;
+        }
+        for _ in 1..levels {
+            members.push_str("}]")?;
+        }
+        let line = city_with(alloc, members.as_str())?;
+        assert_eq!(rt; is_city(alloc, line.as_str())?, is, "with {levels}");
+    }
+    Ok(())
+}
