@@ -1,13 +1,9 @@
 -- The lines of a run as JSON.
-use Rattle.std.specs.Prelude.{ℕ, List, [], ◌∷◌, map, codes, Bool}
+use Rattle.std.specs.Prelude.{ℕ, List, [], ◌∷◌, map, codes}
 use Rattle.serde_json.specs.Data.{Data, unsigned, boolean, number, string, array, object, no_members, member}
 use Rattle.serde_json.specs.View.{items_of}
 use Rattle.serde_json.specs.Written.{compact_text}
 use Rattle.iris_base.specs.NameText.{name_text}
-use Rattle.iris_tree.specs.LocalText.{plain_data}
-use Rattle.iris_json.specs.declared.item.Element.{Element}
-use Rattle.iris_json.specs.declared.item.Element.TheVariants.{Node, Plain}
-use Rattle.iris_json.specs.declared.item.Item.{Item}
 use Rattle.iris_json.specs.declared.out.Cite.{Cite}
 use Rattle.iris_json.specs.declared.out.Why.{Why}
 use Rattle.iris_json.specs.declared.out.Why.TheVariants.{Empty, Truncated, Shape}
@@ -15,15 +11,9 @@ use Rattle.iris_json.specs.declared.out.Which.{Which}
 use Rattle.iris_json.specs.declared.out.Which.TheVariants.{Script}
 use Rattle.iris_json.specs.declared.out.Out.{Out}
 use Rattle.iris_json.specs.declared.out.Out.TheVariants.{Query, Answer, Settled, Ended, Limit}
-use Rattle.iris_json.specs.Render.{node_data, item_data}
+use Rattle.iris_json.specs.Render.{items_data}
 
-abbrev pub element_data : Element → Data
-element_data (Node tree) = node_data tree
-element_data (Plain plain) = plain_data plain
-
-abbrev pub items_data : List Item → Data
-items_data items = array (items_of (map (λ i. item_data i.at (element_data i.is)) items))
-
+-- a whole number
 abbrev pub count : ℕ → Data
 count n = number (unsigned n)
 
@@ -31,11 +21,17 @@ count n = number (unsigned n)
 abbrev pub cite_data : Cite → Data
 cite_data c = array (items_of (string (name_text c.name) ∷ count c.version ∷ count c.stamp ∷ []))
 
+-- cites, in their order
+abbrev pub cites_data : List Cite → Data
+cites_data cites = array (items_of (map cite_data cites))
+
+-- the word for what is wrong with a script
 abbrev pub why_word : Why → List ℕ
 why_word Empty = codes "empty"
 why_word Truncated = codes "truncated"
 why_word Shape = codes "shape"
 
+-- the word for a limit
 abbrev pub which_word : Which → List ℕ
 which_word Script = codes "script"
 
@@ -49,7 +45,7 @@ out_data (Query post request to) = object
     no_members))))
 out_data (Answer answer cites newest request) = object
     (member (codes "answer") (items_data answer)
-    (member (codes "cites") (array (items_of (map cite_data cites)))
+    (member (codes "cites") (cites_data cites)
     (member (codes "newest") (boolean newest)
     (member (codes "request") (count request)
     no_members))))

@@ -1,5 +1,5 @@
 -- Nodes and items as JSON.
-use Rattle.std.specs.Prelude.{ℕ, List, [], ◌∷◌, map, codes, Option, Some, None, option_map, option_and_then}
+use Rattle.std.specs.Prelude.{ℕ, List, map, codes, Option, Some, None, option_map, option_and_then}
 use Rattle.std.specs.List.{filter_map}
 use Rattle.serde_json.specs.Data.{Data, string, array, object, Items, no_items, item, no_members, member}
 use Rattle.serde_json.specs.View.{items_of}
@@ -9,6 +9,8 @@ use Rattle.iris_base.specs.NameText.{name_text}
 use Rattle.iris_tree.specs.Universe.{Node, node, Nodes, no_nodes, nodes}
 use Rattle.iris_tree.specs.Document.{Place, Part, whole, a_node, a_plain, name_of, part_at_place}
 use Rattle.iris_tree.specs.LocalText.{attrs_data, plain_data}
+use Rattle.iris_json.specs.declared.item.Element.{Element}
+use Rattle.iris_json.specs.declared.item.Item.{Item}
 
 -- a node: its keys in the order of their bytes, its nodes in the order of their labels
 abbrev mutual
@@ -35,6 +37,16 @@ part_data (a_plain p) = Some (plain_data p)
 abbrev pub item_data : List Label → Data → Data
 item_data at is = object (member (codes "at") (string (name_text at)) (member (codes "is") is no_members))
 
+-- an element, with all below it
+abbrev pub element_data : Element → Data
+element_data (Element.Node tree) = node_data tree
+element_data (Element.Plain plain) = plain_data plain
+
+-- items, in their order
+abbrev pub items_data : List Item → Data
+items_data items = array (items_of (map (λ i. item_data i.at (element_data i.is)) items))
+
+-- the item at a place, if an element stands there
 abbrev pub item_at : Node → Place → Option Data
 item_at document place = option_map (item_data (name_of place)) (option_and_then part_data (part_at_place document place))
 

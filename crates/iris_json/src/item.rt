@@ -1,5 +1,8 @@
 //! Nodes and the items of an answer, written as JSON.
-ghost use Rattle.std.specs.Prelude.{◌≡◌};
+ghost use Rattle.std.specs.Prelude.{◌≡◌, ◌++◌, OnOk, IfOk};
+ghost use Rattle.serde_json.specs.Written.{compact_text};
+ghost use Rattle.iris_tree.specs.LocalText.{value_tokens};
+ghost use Rattle.iris_json.specs.Render.{node_data, element_data, item_data, items_data};
 
 use iris_tree::{JsonText, Mem, Name, Plain, Tree, name_text};
 use std::alloc::Global;
@@ -11,6 +14,18 @@ pub enum Element {
     Plain(Plain),
 }
 
+impl Element {
+    /// A copy, by the same allocator.
+    pub fn copy(&self) -> Mem<Element>
+        ensures { IfOk result (λ copy. copy ≡ self.now) }
+    {
+        Ok(match self {
+            Element::Node(tree) => Element::Node(tree.copy()?),
+            Element::Plain(plain) => Element::Plain(plain.copy()?),
+        })
+    }
+}
+
 /// An item of an answer.
 #[derive(Debug, Drop)]
 pub struct Item {
@@ -20,9 +35,23 @@ pub struct Item {
     pub is: Element,
 }
 
+impl Item {
+    /// A copy, by the same allocator.
+    pub fn copy(&self) -> Mem<Item>
+        ensures { IfOk result (λ copy. copy ≡ self.now) }
+    {
+        Ok(Item {
+            at: self.at.copy()?,
+            is: self.is.copy()?,
+        })
+    }
+}
+
 /// Writes a node with all below it: the keys `attrs`, `id`, `kind`, `nodes`, `plain`, the nodes in the
 /// order of their labels.
-pub fn put_tree(tree: &Tree, out: &mut JsonText) -> Mem<()> {
+pub fn put_tree(tree: &Tree, out: &mut JsonText) -> Mem<()>
+    ensures { OnOk result (out.new ≡ out.old ++ value_tokens (node_data tree.now)) }
+{
     out.begin_object()?;
     out.key("attrs")?;
     tree.local().attrs.write(out)?;
@@ -46,22 +75,36 @@ pub fn put_tree(tree: &Tree, out: &mut JsonText) -> Mem<()> {
     Ok(())
 }
 
+// Writes a node or a plain element, as each is written.
+#[tactic(auto, unfolding(iris_tree::specs::LocalText::value_tokens))]
+fn put_element(element: &Element, out: &mut JsonText) -> Mem<()>
+    ensures { OnOk result (out.new ≡ out.old ++ value_tokens (element_data element.now)) }
+{
+    match element {
+        Element::Node(tree) => put_tree(tree, out),
+        Element::Plain(plain) => plain.write(out),
+    }
+}
+
 // Writes an item: the keys `at` and `is`.
-fn put_item(alloc: Global, item: &Item, out: &mut JsonText) -> Mem<()> {
+#[tactic(auto, using(crate::proofs::Written::item_written, std::proofs::lemmas::List::append_assoc))]
+fn put_item(alloc: Global, item: &Item, out: &mut JsonText) -> Mem<()>
+    ensures { OnOk result (out.new ≡ out.old ++ value_tokens (item_data item.now.at (element_data item.now.is))) }
+{
+    let at = name_text(alloc, &item.at)?;
     out.begin_object()?;
     out.key("at")?;
-    out.string(name_text(alloc, &item.at)?.as_str())?;
+    out.string(at.as_str())?;
     out.key("is")?;
-    match &item.is {
-        Element::Node(tree) => put_tree(tree, out)?,
-        Element::Plain(plain) => plain.write(out)?,
-    }
+    put_element(&item.is, out)?;
     out.end_object()?;
     Ok(())
 }
 
 /// Writes a list of items.
-pub fn put_items(alloc: Global, items: &[Item], out: &mut JsonText) -> Mem<()> {
+pub fn put_items(alloc: Global, items: &[Item], out: &mut JsonText) -> Mem<()>
+    ensures { OnOk result (out.new ≡ out.old ++ value_tokens (items_data items.now)) }
+{
     out.begin_array()?;
     for item in items {
         put_item(alloc, item, out)?;
@@ -72,14 +115,20 @@ pub fn put_items(alloc: Global, items: &[Item], out: &mut JsonText) -> Mem<()> {
 
 /// The compact text of a node with all below it, as `{"attrs":{},"id":"1","kind":"space","nodes":[],
 /// "plain":[]}`.
-pub fn write_tree(alloc: Global, tree: &Tree) -> Mem<Vec<u8>> {
+#[tactic(auto, using(iris_tree::proofs::Texts::printed))]
+pub fn write_tree(alloc: Global, tree: &Tree) -> Mem<Vec<u8>>
+    ensures { IfOk result (λ text. text.items ≡ compact_text (node_data tree.now)) }
+{
     let mut out = JsonText::new(alloc);
     put_tree(tree, &mut out)?;
     Ok(out.into_bytes())
 }
 
 /// The compact text of a list of items, each `{"at":NAME,"is":ELEMENT}`.
-pub fn write_items(alloc: Global, items: &[Item]) -> Mem<Vec<u8>> {
+#[tactic(auto, using(iris_tree::proofs::Texts::printed))]
+pub fn write_items(alloc: Global, items: &[Item]) -> Mem<Vec<u8>>
+    ensures { IfOk result (λ text. text.items ≡ compact_text (items_data items.now)) }
+{
     let mut out = JsonText::new(alloc);
     put_items(alloc, items, &mut out)?;
     Ok(out.into_bytes())

@@ -7,6 +7,8 @@ mod keys;
 mod line;
 mod node;
 mod out;
+#[cfg(test)]
+mod tests;
 
 pub use city::{City, CityError, CityWhy, read_city};
 pub use item::{Element, Item, write_items, write_tree};

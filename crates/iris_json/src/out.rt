@@ -1,5 +1,8 @@
 //! The lines of a run.
-ghost use Rattle.std.specs.Prelude.{◌≡◌};
+ghost use Rattle.std.specs.Prelude.{◌≡◌, ◌++◌, OnOk, IfOk};
+ghost use Rattle.iris_tree.specs.LocalText.{value_tokens};
+ghost use Rattle.iris_json.specs.declared.out.Out.{Out};
+ghost use Rattle.iris_json.specs.Out.{why_word, which_word, cite_data, cites_data, out_data, out_text};
 
 use crate::item::{Item, put_items};
 use iris_tree::{AgentId, JsonText, Mem, Name, Sequence, name_text};
@@ -15,6 +18,19 @@ pub struct Cite {
     pub stamp: u64,
 }
 
+impl Cite {
+    /// A copy, by the same allocator.
+    pub fn copy(&self) -> Mem<Cite>
+        ensures { IfOk result (λ copy. copy ≡ self.now) }
+    {
+        Ok(Cite {
+            name: self.name.copy()?,
+            version: self.version,
+            stamp: self.stamp,
+        })
+    }
+}
+
 /// What is wrong with a script.
 #[derive(Clone, Copy, Debug, PartialEq, Eq)]
 pub enum Why {
@@ -28,7 +44,9 @@ pub enum Why {
 
 impl Why {
     /// The word that the last line has for it.
-    pub fn word(self) -> &'static str {
+    pub fn word(self) -> &'static str
+        ensures { result.now ≡ why_word self }
+    {
         match self {
             Why::Empty => "empty",
             Why::Truncated => "truncated",
@@ -46,7 +64,9 @@ pub enum Which {
 
 impl Which {
     /// The word that the last line has for it.
-    pub fn word(self) -> &'static str {
+    pub fn word(self) -> &'static str
+        ensures { result.now ≡ which_word self }
+    {
         match self {
             Which::Script => "script",
         }
@@ -88,7 +108,10 @@ pub enum Out {
     },
 }
 
-fn put_query(post: u64, request: u64, to: &AgentId, out: &mut JsonText) -> Mem<()> {
+#[tactic(auto, using(std::proofs::lemmas::List::append_assoc), unfolding(iris_tree::specs::LocalText::value_tokens))]
+fn put_query(post: u64, request: u64, to: &AgentId, out: &mut JsonText) -> Mem<()>
+    ensures { OnOk result (out.new ≡ out.old ++ value_tokens (out_data (Out.Query post request to.now))) }
+{
     out.begin_object()?;
     out.key("kind")?;
     out.string("query")?;
@@ -102,16 +125,22 @@ fn put_query(post: u64, request: u64, to: &AgentId, out: &mut JsonText) -> Mem<(
     Ok(())
 }
 
-fn put_cite(alloc: Global, cite: &Cite, out: &mut JsonText) -> Mem<()> {
+#[tactic(auto, using(std::proofs::lemmas::List::append_assoc), unfolding(iris_tree::specs::LocalText::value_tokens))]
+fn put_cite(alloc: Global, cite: &Cite, out: &mut JsonText) -> Mem<()>
+    ensures { OnOk result (out.new ≡ out.old ++ value_tokens (cite_data cite.now)) }
+{
+    let name = name_text(alloc, &cite.name)?;
     out.begin_array()?;
-    out.string(name_text(alloc, &cite.name)?.as_str())?;
+    out.string(name.as_str())?;
     out.number(cite.version)?;
     out.number(cite.stamp)?;
     out.end_array()?;
     Ok(())
 }
 
-fn put_cites(alloc: Global, cites: &[Cite], out: &mut JsonText) -> Mem<()> {
+fn put_cites(alloc: Global, cites: &[Cite], out: &mut JsonText) -> Mem<()>
+    ensures { OnOk result (out.new ≡ out.old ++ value_tokens (cites_data cites.now)) }
+{
     out.begin_array()?;
     for cite in cites {
         put_cite(alloc, cite, out)?;
@@ -120,6 +149,7 @@ fn put_cites(alloc: Global, cites: &[Cite], out: &mut JsonText) -> Mem<()> {
     Ok(())
 }
 
+#[tactic(auto, using(crate::proofs::Written::answer_written, std::proofs::lemmas::List::append_assoc))]
 fn put_answer(
     alloc: Global,
     answer: &[Item],
@@ -127,7 +157,9 @@ fn put_answer(
     newest: bool,
     request: u64,
     out: &mut JsonText,
-) -> Mem<()> {
+) -> Mem<()>
+    ensures { OnOk result (out.new ≡ out.old ++ value_tokens (out_data (Out.Answer answer.now cites.now newest request))) }
+{
     out.begin_object()?;
     out.key("answer")?;
     put_items(alloc, answer, out)?;
@@ -141,7 +173,10 @@ fn put_answer(
     Ok(())
 }
 
-fn put_settled(settled: u64, out: &mut JsonText) -> Mem<()> {
+#[tactic(auto, using(std::proofs::lemmas::List::append_assoc), unfolding(iris_tree::specs::LocalText::value_tokens))]
+fn put_settled(settled: u64, out: &mut JsonText) -> Mem<()>
+    ensures { OnOk result (out.new ≡ out.old ++ value_tokens (out_data (Out.Settled settled))) }
+{
     out.begin_object()?;
     out.key("settled")?;
     out.number(settled)?;
@@ -149,7 +184,10 @@ fn put_settled(settled: u64, out: &mut JsonText) -> Mem<()> {
     Ok(())
 }
 
-fn put_ended(line: u64, why: Why, out: &mut JsonText) -> Mem<()> {
+#[tactic(auto, using(std::proofs::lemmas::List::append_assoc), unfolding(iris_tree::specs::LocalText::value_tokens))]
+fn put_ended(line: u64, why: Why, out: &mut JsonText) -> Mem<()>
+    ensures { OnOk result (out.new ≡ out.old ++ value_tokens (out_data (Out.Ended line why))) }
+{
     out.begin_object()?;
     out.key("ended")?;
     out.number(3)?;
@@ -161,7 +199,10 @@ fn put_ended(line: u64, why: Why, out: &mut JsonText) -> Mem<()> {
     Ok(())
 }
 
-fn put_limit(count: u64, which: Which, out: &mut JsonText) -> Mem<()> {
+#[tactic(auto, using(std::proofs::lemmas::List::append_assoc), unfolding(iris_tree::specs::LocalText::value_tokens))]
+fn put_limit(count: u64, which: Which, out: &mut JsonText) -> Mem<()>
+    ensures { OnOk result (out.new ≡ out.old ++ value_tokens (out_data (Out.Limit count which))) }
+{
     out.begin_object()?;
     out.key("count")?;
     out.number(count)?;
@@ -174,7 +215,10 @@ fn put_limit(count: u64, which: Which, out: &mut JsonText) -> Mem<()> {
 }
 
 /// The compact text of a line, with its keys in the order of their bytes, without LF.
-pub fn write_out(alloc: Global, out: &Out) -> Mem<Vec<u8>> {
+#[tactic(auto, using(iris_tree::proofs::Texts::printed))]
+pub fn write_out(alloc: Global, out: &Out) -> Mem<Vec<u8>>
+    ensures { IfOk result (λ text. text.items ≡ out_text out.now) }
+{
     let mut text = JsonText::new(alloc);
     match out {
         Out::Query { post, request, to } => put_query(*post, *request, to, &mut text)?,

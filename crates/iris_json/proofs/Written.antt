@@ -1,0 +1,71 @@
+-- What is written for nodes, items and the lines of a run.
+use Rattle.std.proofs.Common.{◌≡◌, ℕ, ◌+◌, ◌<◌, List, [], ◌∷◌, ◌++◌, ◌∙◌, Bool, ap, sym, refl, get_or, length, take, map, flat_map, codes, decimal, append_assoc}
+use Rattle.std.proofs.lemmas.List.{take_more, append-nil}
+use Rattle.std.proofs.lemmas.Grind.{flat_map-append}
+use Rattle.json.specs.Token.{Token}
+use Rattle.json.specs.Tree.{items_tokens}
+use Rattle.serde_json.specs.Data.{Data, array}
+use Rattle.serde_json.specs.View.{items_of}
+use Rattle.serde_json.specs.Written.{items_outline}
+use Rattle.iris_base.specs.declared.name.Label.{Label}
+use Rattle.iris_base.specs.NameText.{name_text}
+use Rattle.iris_tree.specs.LocalText.{attrs_data, plain_data, value_tokens}
+use Rattle.iris_tree.specs.Universe.{Node, node, Nodes, no_nodes, nodes, label_of, local_of, list_of, children_of}
+use Rattle.iris_json.specs.declared.item.Item.{Item}
+use Rattle.iris_json.specs.declared.out.Cite.{Cite}
+use Rattle.iris_json.specs.declared.out.Out.{Out}
+use Rattle.iris_json.specs.Render.{node_data, nodes_data, item_data, items_data}
+use Rattle.iris_json.specs.Out.{cites_data, out_data}
+
+-- what is written for one value after another
+abbrev pub all_tokens : {A : Type 0} → (A → Data) → List A → List Token
+all_tokens as_data xs = flat_map (λ x. value_tokens (as_data x)) xs
+
+-- one value more
+pub tokens_more : {A : Type 0} (as_data : A → Data) (xs : List A) (i : ℕ) (x : A) → i < length xs → x ≡ get_or xs i x → all_tokens as_data (take (i + 1) xs) ≡ all_tokens as_data (take i xs) ++ value_tokens (as_data x)
+tokens_more as_data xs i x within is =
+    ap (all_tokens as_data) (take_more xs i x within ∙ ap (λ y. take i xs ++ y ∷ []) (sym is))
+    ∙ flat_map-append (λ y. value_tokens (as_data y)) (take i xs) (x ∷ []) ∙ ap (λ (ts : List Token). all_tokens as_data (take i xs) ++ ts) (append-nil (value_tokens (as_data x)))
+
+-- the rest of an array, and what follows it
+items_written : {A : Type 0} (as_data : A → Data) (xs : List A) (ts : List Token) → items_tokens (items_outline (items_of (map as_data xs))) ++ ts ≡ all_tokens as_data xs ++ Token.end_array ∷ ts
+unfolding value_tokens
+items_written as_data [] ts = refl
+items_written as_data (x ∷ xs) ts = rw (append_assoc (value_tokens (as_data x)) (items_tokens (items_outline (items_of (map as_data xs)))) ts, items_written as_data xs ts, append_assoc (value_tokens (as_data x)) (all_tokens as_data xs) (Token.end_array ∷ ts)) refl
+
+-- an array
+pub array_written : {A : Type 0} (as_data : A → Data) (xs : List A) → value_tokens (array (items_of (map as_data xs))) ≡ Token.begin_array ∷ (all_tokens as_data xs ++ Token.end_array ∷ [])
+unfolding value_tokens
+array_written as_data xs = ap (λ (ts : List Token). Token.begin_array ∷ ts) (sym (append-nil (items_tokens (items_outline (items_of (map as_data xs))))) ∙ items_written as_data xs [])
+
+-- the nodes below a node, and what follows them
+nodes_written : (ns : Nodes) (ts : List Token) → items_tokens (items_outline (nodes_data ns)) ++ ts ≡ all_tokens node_data (list_of ns) ++ Token.end_array ∷ ts
+unfolding value_tokens
+nodes_written no_nodes ts = refl
+nodes_written (nodes n ns) ts = rw (append_assoc (value_tokens (node_data n)) (items_tokens (items_outline (nodes_data ns))) ts, nodes_written ns ts, append_assoc (value_tokens (node_data n)) (all_tokens node_data (list_of ns)) (Token.end_array ∷ ts)) refl
+
+-- a node
+pub node_written : (n : Node) → value_tokens (node_data n)
+    ≡ Token.begin_object ∷ Token.key (codes "attrs") ∷ (value_tokens (attrs_data (local_of n).attrs)
+    ++ (Token.key (codes "id") ∷ Token.string (label_of n).id ∷ Token.key (codes "kind") ∷ Token.string (label_of n).kind ∷ Token.key (codes "nodes") ∷ Token.begin_array ∷ (all_tokens node_data (children_of n)
+    ++ (Token.end_array ∷ Token.key (codes "plain") ∷ Token.begin_array ∷ (all_tokens plain_data (local_of n).plain
+    ++ (Token.end_array ∷ Token.end_object ∷ []))))))
+unfolding value_tokens
+node_written (node label local below) =
+    ap (λ (ts : List Token). Token.begin_object ∷ Token.key (codes "attrs") ∷ (value_tokens (attrs_data local.attrs)
+    ++ (Token.key (codes "id") ∷ Token.string label.id ∷ Token.key (codes "kind") ∷ Token.string label.kind ∷ Token.key (codes "nodes") ∷ Token.begin_array ∷ ts)))
+    (nodes_written below (Token.key (codes "plain") ∷ Token.begin_array ∷ (items_tokens (items_outline (items_of (map plain_data local.plain))) ++ Token.end_object ∷ []))
+    ∙ ap (λ (ts : List Token). all_tokens node_data (list_of below) ++ (Token.end_array ∷ Token.key (codes "plain") ∷ Token.begin_array ∷ ts)) (items_written plain_data local.plain (Token.end_object ∷ [])))
+
+-- an item
+pub item_written : (at : List Label) (is : Data) → value_tokens (item_data at is)
+    ≡ Token.begin_object ∷ Token.key (codes "at") ∷ Token.string (name_text at) ∷ Token.key (codes "is") ∷ (value_tokens is ++ Token.end_object ∷ [])
+unfolding value_tokens
+item_written at is = refl
+
+-- an answer
+pub answer_written : (answer : List Item) (cites : List Cite) (newest : Bool) (request : ℕ) → value_tokens (out_data (Out.Answer answer cites newest request))
+    ≡ Token.begin_object ∷ Token.key (codes "answer") ∷ (value_tokens (items_data answer) ++ (Token.key (codes "cites") ∷ (value_tokens (cites_data cites)
+    ++ (Token.key (codes "newest") ∷ Token.boolean newest ∷ Token.key (codes "request") ∷ Token.number (decimal request) ∷ Token.end_object ∷ []))))
+unfolding value_tokens
+answer_written answer cites newest request = refl
