@@ -1,5 +1,6 @@
 pub mod Pieces
 pub mod Predicates
+pub mod Reached
 pub mod Results
 pub mod Steps
 pub mod Words

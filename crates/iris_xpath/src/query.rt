@@ -1,5 +1,5 @@
 //! Queries of the thin form: steps, and the predicates of each.
-ghost use Rattle.std.specs.Prelude.{◌≡◌, IfOk};
+ghost use Rattle.std.specs.Prelude.{◌≡◌, ◌≢◌, [], IfOk};
 
 use iris_base::{Kind, Mem, Sequence, Text};
 use std::alloc::Global;
@@ -123,11 +123,14 @@ pub struct Query {
 }
 
 impl Model for Query {
+    ghost use Rattle.std.specs.Prelude.{◌≢◌, []};
     ghost use Rattle.iris_xpath.specs.Syntax.{Syntax};
 
     ghost Value = { Syntax };
 
     ghost view = { λ q. q.steps };
+
+    ghost invariant = { λ q. q.steps ≢ [] };
 
     ghost inverse = { λ steps. record { steps = steps } };
 }
@@ -135,6 +138,7 @@ impl Model for Query {
 impl Query {
     /// The query of these steps.
     pub(crate) fn new(steps: Sequence<Step>) -> Query
+        requires some { steps ≢ [] }
         ensures { result ≡ steps }
     {
         Query { steps }
@@ -143,7 +147,8 @@ impl Query {
     /// The steps, from the top of the document down.
     #[inline]
     pub fn steps(&self) -> &[Step]
-        ensures { result.now ≡ self.now }
+        ensures value { result.now ≡ self.now }
+        ensures some { self.now ≢ [] }
     {
         self.steps.as_slice()
     }
