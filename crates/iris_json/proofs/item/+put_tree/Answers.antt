@@ -8,7 +8,7 @@ use Rattle.iris_json.proofs.Written.{tokens_more, node_written}
 use Rattle.iris_json.proofs.item.+put_tree.Goals as goal
 
 pub put_tree-requires : goal.put_tree-requires
-put_tree-requires t c = (size_of-found _ _ _ _ _ c.children-node-items.ensures c.loop-node-test.true c.node-item.is c.decreases, tt)
+put_tree-requires t c = (size_of-found _ _ _ _ _ c.children-node-items.ensures.value c.loop-node-test.true c.node-item.is c.decreases, tt)
 
 pub loop-node-preserved : goal.loop-node-preserved
 loop-node-preserved t c =
@@ -24,7 +24,7 @@ loop-element-preserved t c =
 
 pub returns : goal.returns
 returns t c =
-    let nodes : take c.loop-node.node-index c.children-node-items.result.now ≡ children_of c.args.tree.now = take_all _ _ c.loop-node-test.false ∙ c.children-node-items.ensures in
+    let nodes : take c.loop-node.node-index c.children-node-items.result.now ≡ children_of c.args.tree.now = take_all _ _ c.loop-node-test.false ∙ c.children-node-items.ensures.value in
     let plain : take c.loop-element.element-index c.as_slice-element-items.result.now ≡ (local_of c.args.tree.now).plain =
     take_all _ _ c.loop-element-test.false ∙ c.as_slice-element-items.ensures ∙ ap (λ (l : Local). l.plain) c.local-2.ensures in
     rw (
