@@ -129,7 +129,7 @@ further_step l local below t ts =
     let at = below_node (node l local below) in
     filter-append (reached at (t ∷ ts)) (numbered 0 (map plain_places local.plain)) (all_node_places below)
     ∙ ap (λ (ps : List Place). ps ++ filter (reached at (t ∷ ts)) (all_node_places below))
-        (no_plain (reached at (t ∷ ts)) (λ i place. ap (λ b. b && reached (λ p. at (position i ∷ p)) ts place) (plain_never (slice_get local.plain i) t)) local.plain 0)
+    (no_plain (reached at (t ∷ ts)) (λ i place. ap (λ b. b && reached (λ p. at (position i ∷ p)) ts place) (plain_never (slice_get local.plain i) t)) local.plain 0)
 
 one_found : (b : Bool) (above : List Label) (l : Label) → map place_of (cond b ((above ++ l ∷ []) ∷ []) []) ≡ map (λ place. place_of above ++ place) (map (λ place. label l ∷ place) (cond b ([] ∷ []) []))
 one_found true above l = ap (λ (p : Place). p ∷ []) (map-append label above (l ∷ []))
@@ -147,12 +147,12 @@ mutual
       let n = node l local below in
       one_found (fits (Some (a_node n)) s) above l
       ∙ sym (ap (map (λ place. place_of above ++ place)) (at_node n at same s [] ([] ∷ numbered 0 (map plain_places local.plain) ++ all_node_places below)
-          ∙ ap (λ (ps : List Place). map (λ place. label l ∷ place) (cond (fits (Some (a_node n)) s) ps [])) (last_step local below)))
+      ∙ ap (λ (ps : List Place). map (λ place. label l ∷ place) (cond (fits (Some (a_node n)) s) ps [])) (last_step local below)))
   led_node above (node l local below) ordered at same s (t ∷ ts) =
       let n = node l local below in
       more_found (fits (Some (a_node n)) s) above l _ _ (led_nodes (above ++ l ∷ []) below ordered (below_node n) (sees_children l local below ordered) t ts)
       ∙ sym (ap (map (λ place. place_of above ++ place)) (at_node n at same s (t ∷ ts) ([] ∷ numbered 0 (map plain_places local.plain) ++ all_node_places below)
-          ∙ ap (λ (ps : List Place). map (λ place. label l ∷ place) (cond (fits (Some (a_node n)) s) ps [])) (further_step l local below t ts)))
+      ∙ ap (λ (ps : List Place). map (λ place. label l ∷ place) (cond (fits (Some (a_node n)) s) ps [])) (further_step l local below t ts)))
 
   led_nodes : (above : List Label) (ns : Nodes) → AreOrdered ns → (at : Parts) → Sees at ns → (s : Main) (ss : Syntax)
       → map place_of (all_led_to above ns s ss) ≡ map (λ place. place_of above ++ place) (filter (reached at (s ∷ ss)) (all_node_places ns))
@@ -162,7 +162,7 @@ mutual
       ∙ ap (λ (ps : List Place). ps ++ map place_of (all_led_to above ns s ss)) (led_node above n ordered.0 at sees.0 s ss)
       ∙ ap (λ (ps : List Place). map (λ place. place_of above ++ place) (filter (reached at (s ∷ ss)) (node_places n)) ++ ps) (led_nodes above ns ordered.2 at sees.1 s ss)
       ∙ sym (ap (map (λ place. place_of above ++ place)) (filter-append (reached at (s ∷ ss)) (node_places n) (all_node_places ns))
-          ∙ map-append (λ place. place_of above ++ place) (filter (reached at (s ∷ ss)) (node_places n)) (filter (reached at (s ∷ ss)) (all_node_places ns)))
+      ∙ map-append (λ place. place_of above ++ place) (filter (reached at (s ∷ ss)) (node_places n)) (filter (reached at (s ∷ ss)) (all_node_places ns)))
 
 map_id : {A : Type 0} (xs : List (List A)) → map (λ x. [] ++ x) xs ≡ xs
 map_id [] = refl
@@ -207,16 +207,16 @@ looked_below n a s ss m = (is_edge (label (label_of n) ∷ place_of m) && tested
 look_here : (n : Node) (at : Parts) → (λ place. at (label (label_of n) ∷ place)) ≡ below_node n → (s : Main) (ss : Syntax) (below : Nodes)
     → filter (λ name. looked (s ∷ ss) at (place_of name)) (map (λ m. label_of n ∷ m) ([] ∷ all_names_of below))
     ≡ map (λ m. label_of n ∷ m) (cond (tested_with_a_look (Some (a_node n)) s || (fits (Some (a_node n)) s && looked ss (below_node n) []))
-        ([] ∷ cond (fits (Some (a_node n)) s) (filter (λ m. looked ss (below_node n) (place_of m)) (all_names_of below)) [])
-        (cond (fits (Some (a_node n)) s) (filter (λ m. looked ss (below_node n) (place_of m)) (all_names_of below)) []))
+    ([] ∷ cond (fits (Some (a_node n)) s) (filter (λ m. looked ss (below_node n) (place_of m)) (all_names_of below)) [])
+    (cond (fits (Some (a_node n)) s) (filter (λ m. looked ss (below_node n) (place_of m)) (all_names_of below)) []))
 look_here n at same s ss below =
     let f = fits (Some (a_node n)) s in
     let here = tested_with_a_look (Some (a_node n)) s || (f && looked ss (below_node n) []) in
     filter_map_same (λ name. looked (s ∷ ss) at (place_of name)) (λ m. label_of n ∷ m) ([] ∷ all_names_of below)
     ∙ ap (λ (a : Parts). map (λ m. label_of n ∷ m) (filter (looked_below n a s ss) ([] ∷ all_names_of below))) same
     ∙ ap (λ (ms : List (List Label)). map (λ m. label_of n ∷ m) (cond here ([] ∷ ms) ms))
-        (named_nodes (looked_below n (below_node n) s ss) (λ m. f && looked ss (below_node n) (place_of m)) (λ x m. refl) below
-        ∙ filter_and f (λ m. looked ss (below_node n) (place_of m)) (all_names_of below))
+    (named_nodes (looked_below n (below_node n) s ss) (λ m. f && looked ss (below_node n) (place_of m)) (λ x m. refl) below
+    ∙ filter_and f (λ m. looked ss (below_node n) (place_of m)) (all_names_of below))
 
 all_kept : {A : Type 0} (xs : List A) → filter (λ x. true) xs ≡ xs
 all_kept [] = refl
@@ -252,7 +252,7 @@ mutual
   look_node above (node l local below) ordered at same s (t ∷ ts) =
       let n = node l local below in
       further_looked (fits (Some (a_node n)) s) (tested_with_a_look (Some (a_node n)) s) above l _ _
-          (look_nodes (above ++ l ∷ []) below ordered (below_node n) (sees_children l local below ordered) t ts)
+      (look_nodes (above ++ l ∷ []) below ordered (below_node n) (sees_children l local below ordered) t ts)
       ∙ sym (ap (map (λ m. above ++ m)) (look_here n at same s (t ∷ ts) below))
 
   look_nodes : (above : List Label) (ns : Nodes) → AreOrdered ns → (at : Parts) → Sees at ns → (s : Main) (ss : Syntax)
@@ -262,7 +262,7 @@ mutual
       ap (λ ms. ms ++ all_looked_at above ns s ss) (look_node above n ordered.0 at sees.0 s ss)
       ∙ ap (λ ms. map (λ m. above ++ m) (filter (λ name. looked (s ∷ ss) at (place_of name)) (names_of n)) ++ ms) (look_nodes above ns ordered.2 at sees.1 s ss)
       ∙ sym (ap (map (λ m. above ++ m)) (filter-append (λ name. looked (s ∷ ss) at (place_of name)) (names_of n) (all_names_of ns))
-          ∙ map-append (λ m. above ++ m) (filter (λ name. looked (s ∷ ss) at (place_of name)) (names_of n)) (filter (λ name. looked (s ∷ ss) at (place_of name)) (all_names_of ns)))
+      ∙ map-append (λ m. above ++ m) (filter (λ name. looked (s ∷ ss) at (place_of name)) (names_of n)) (filter (λ name. looked (s ∷ ss) at (place_of name)) (all_names_of ns)))
 
 -- the walk looks into the nodes that an evaluation looks into
 looked_is : (document : Node) → IsOrdered document → (s : Main) (ss : Syntax) → looked_at [] document s ss ≡ full_names document (s ∷ ss)

@@ -3,6 +3,8 @@
 
 mod items;
 mod place;
+#[cfg(test)]
+mod tests;
 mod walk;
 
 pub use items::{answer, items_at};

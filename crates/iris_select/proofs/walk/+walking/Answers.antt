@@ -45,19 +45,23 @@ descend-returns-clause-full t c =
 pub visit-returns-clause-places : goal.visit-returns-clause-places
 visit-returns-clause-places t c =
     let unchanged : map edges_of c.if-tested.found.places.items ≡ map edges_of c.args.found.now.places.items =
-        elim c.if-tested.branch [ visit-then-tested+in_ok-copy-2+in_ok-push-3 w ↦ ap (λ (e : Evaluation). map edges_of e.places.items) w.found-is
-                                | visit-else-tested w ↦ ap (λ (e : Evaluation). map edges_of e.places.items) w.found-is ] in
+    elim c.if-tested.branch [
+      | visit-then-tested+in_ok-copy-2+in_ok-push-3 w ↦ ap (λ (e : Evaluation). map edges_of e.places.items) w.found-is
+      | visit-else-tested w ↦ ap (λ (e : Evaluation). map edges_of e.places.items) w.found-is
+    ] in
     on_ok_weaker c.descend.result (led_through _ c.args.above.now _ c.args.node.now c.args.step.now c.in-Some.next.now c.args.rest.now c.in-Some.further.now _ _ _ _ unchanged c.in_ok-name.ensures c.label.ensures c.if-not-tested-3.false c.test-tested.ensures.passes c.in-Some.ensures.cases.0)
     c.descend.ensures.places
 
 pub visit-returns-clause-full : goal.visit-returns-clause-full
 visit-returns-clause-full t c =
     let pushed : c.if-tested.found.full.items ≡ c.args.found.now.full.items ++ cond c.test-tested.result.looks (c.in_ok-name.name ∷ []) [] =
-        elim c.if-tested.branch [ visit-then-tested+in_ok-copy-2+in_ok-push-3 w ↦
-                                    ap (λ (e : Evaluation). e.full.items) w.found-is ∙ w.in_ok-push-3.ensures.items ∙ ap (λ (m : List Label). c.args.found.now.full.items ++ m ∷ []) w.in_ok-copy-2.ensures
-                                    ∙ sym (ap (λ (b : Bool). c.args.found.now.full.items ++ cond b (c.in_ok-name.name ∷ []) []) w.if-tested.true)
-                                | visit-else-tested w ↦
-                                    ap (λ (e : Evaluation). e.full.items) w.found-is
-                                    ∙ sym (ap (λ (b : Bool). c.args.found.now.full.items ++ cond b (c.in_ok-name.name ∷ []) []) w.if-tested.false ∙ append-nil c.args.found.now.full.items) ] in
+    elim c.if-tested.branch [
+      | visit-then-tested+in_ok-copy-2+in_ok-push-3 w ↦
+          ap (λ (e : Evaluation). e.full.items) w.found-is ∙ w.in_ok-push-3.ensures.items ∙ ap (λ (m : List Label). c.args.found.now.full.items ++ m ∷ []) w.in_ok-copy-2.ensures
+          ∙ sym (ap (λ (b : Bool). c.args.found.now.full.items ++ cond b (c.in_ok-name.name ∷ []) []) w.if-tested.true)
+      | visit-else-tested w ↦
+          ap (λ (e : Evaluation). e.full.items) w.found-is
+          ∙ sym (ap (λ (b : Bool). c.args.found.now.full.items ++ cond b (c.in_ok-name.name ∷ []) []) w.if-tested.false ∙ append-nil c.args.found.now.full.items)
+    ] in
     on_ok_weaker c.descend.result (looked_through _ c.args.above.now _ c.args.node.now c.args.step.now c.in-Some.next.now c.args.rest.now c.in-Some.further.now _ _ _ _ _ pushed c.in_ok-name.ensures c.label.ensures c.if-not-tested-3.false c.test-tested.ensures.passes c.test-tested.ensures.looks c.in-Some.ensures.cases.0)
     c.descend.ensures.full
