@@ -1,5 +1,9 @@
 //! The items at places, and the answer of a query as JSON.
-ghost use Rattle.std.specs.Prelude.{◌≡◌};
+ghost use Rattle.std.specs.Prelude.{◌≡◌, map, IfOk, option_copied, option_map, slice_get};
+ghost use Rattle.std.specs.List.{filter_map};
+ghost use Rattle.iris_json.specs.Render.{element_data, item_data, item_at, rendered};
+ghost use Rattle.iris_xpath.specs.Meaning.{selected};
+ghost use Rattle.iris_select.specs.Places.{edges_of, element_at};
 
 use crate::place::Place;
 use crate::walk::select;
@@ -8,18 +12,29 @@ use iris_tree::{Local, Mem, Plain, Tree};
 use iris_xpath::Query;
 use std::alloc::Global;
 
+// The plain element at a position among its siblings.
+fn sibling_at(siblings: &[Plain], position: u32) -> Option<&Plain>
+    ensures { option_copied result ≡ slice_get siblings.now position }
+{
+    siblings.get(position as usize)
+}
+
 // The plain element at the end of a path from a node.
-fn plain_at<'a>(local: &'a Local, path: &[u32]) -> Option<&'a Plain> {
+fn plain_at<'a>(local: &'a Local, path: &[u32]) -> Option<&'a Plain>
+    ensures { option_copied result ≡ element_at local.now.plain path.now }
+{
     let (first, below) = path.split_first()?;
-    let mut plain = local.plain.as_slice().get(*first as usize)?;
+    let mut plain = sibling_at(local.plain.as_slice(), *first)?;
     for position in below {
-        plain = plain.kids.as_slice().get(*position as usize)?;
+        plain = sibling_at(plain.kids.as_slice(), *position)?;
     }
     Some(plain)
 }
 
 // The item at a place; none where nothing is there.
-fn item_at(tree: &Tree, place: &Place) -> Mem<Option<Item>> {
+fn item_at(tree: &Tree, place: &Place) -> Mem<Option<Item>>
+    ensures { IfOk result (λ item. option_map (λ i. item_data i.at (element_data i.is)) item ≡ item_at tree.now (edges_of place.now)) }
+{
     let Some(node) = tree.find(&place.name) else {
         return Ok(None);
     };
@@ -39,7 +54,9 @@ fn item_at(tree: &Tree, place: &Place) -> Mem<Option<Item>> {
 }
 
 /// The items at these places, in their order. A place at which nothing is gives none.
-pub fn items_at(alloc: Global, tree: &Tree, places: &[Place]) -> Mem<Vec<Item>> {
+pub fn items_at(alloc: Global, tree: &Tree, places: &[Place]) -> Mem<Vec<Item>>
+    ensures { IfOk result (λ items. map (λ i. item_data i.at (element_data i.is)) items.items ≡ filter_map (item_at tree.now) (map edges_of places.now)) }
+{
     let mut items = Vec::with_capacity(alloc, places.len())?;
     for place in places {
         if let Some(item) = item_at(tree, place)? {
@@ -50,7 +67,9 @@ pub fn items_at(alloc: Global, tree: &Tree, places: &[Place]) -> Mem<Vec<Item>> 
 }
 
 /// The compact JSON of the items that a query selects, in the order of their places.
-pub fn answer(alloc: Global, tree: &Tree, query: &Query) -> Mem<Vec<u8>> {
+pub fn answer(alloc: Global, tree: &Tree, query: &Query) -> Mem<Vec<u8>>
+    ensures { IfOk result (λ text. text.items ≡ rendered tree.now (selected tree.now query.now)) }
+{
     let places = select(alloc, tree, query)?;
     write_items(alloc, &items_at(alloc, tree, &places)?)
 }

@@ -1,101 +1,168 @@
-//! Queries on a small city, with what they select and what they look into.
+//! One city, what queries select in it and look into, and their answers.
 
-use crate::items::answer;
+use crate::items::{answer, items_at};
+use crate::place::Place;
 use crate::walk::{evaluate, select};
-use iris_json::read_city;
-use iris_tree::{Kind, Name, Tree, name_text};
-use iris_xpath::{Query, parse};
+use iris_json::{read_city, write_items};
+use iris_tree::{
+    Attrs, Id, Kind, Label, Local, Name, Plain, Sequence, Tag, Text, TextError, Tree, name_text,
+};
+use iris_xpath::parse;
 use std::alloc::Global;
 use std::str;
-use std::test::*;
+use std::test::Fail;
 
+// A block with three spaces, of which the second is free.
 const CITY: &str =
-    "{\"kinds\":[\"city\",\"hood\",\"block\",\"space\"],\"agents\":[\"a\"],\"place\":[[\"city-o\",\"a\"]],\"tree\":{\"kind\":\"city\",\"id\":\"o\",\"nodes\":[{\"kind\":\"hood\",\"id\":\"n\",\"nodes\":[{\"kind\":\"block\",\"id\":\"1\",\"nodes\":[{\"kind\":\"space\",\"id\":\"3\",\"attrs\":{\"free\":\"no\"}},{\"kind\":\"space\",\"id\":\"1\",\"attrs\":{\"free\":\"no\"}},{\"kind\":\"space\",\"id\":\"2\",\"attrs\":{\"free\":\"yes\"}}]}]}]}}";
+    r#"{"kinds":["city","hood","block","space"],"agents":["a"],"place":[["city-o","a"]],"tree":{"kind":"city","id":"o","nodes":[{"kind":"hood","id":"n","nodes":[{"kind":"block","id":"1","nodes":[{"kind":"space","id":"1","attrs":{"free":"no"}},{"kind":"space","id":"2","attrs":{"free":"yes"}},{"kind":"space","id":"3","attrs":{"free":"no"}}]}]}]}}"#;
 
-// The tree of the city.
-fn tree(alloc: Global) -> Result<Tree, Fail> {
-    Ok(read_city(alloc, CITY.as_bytes())?.tree)
+const FREE: &str = "/city[@id='o']/hood[@id='n']/block[@id='1']/space[@free='yes']";
+
+fn label(kind: &str, id: &str) -> Result<Label, TextError> {
+    let kind = Kind::new(kind)?;
+    let id = Id::new(id)?;
+    Ok(Label { kind, id })
 }
 
-// A query on the kinds of the city.
-fn query(alloc: Global, text: &str) -> Result<Query, Fail> {
-    let mut kinds = Vec::new(alloc);
-    for kind in ["city", "hood", "block", "space"] {
-        kinds.push(Kind::new(kind)?)?;
-    }
-    Ok(parse(alloc, text, &kinds)?)
-}
-
-// The bottom labels of names, one after another.
-fn bottoms(alloc: Global, names: &[Name]) -> Result<String, Fail> {
-    let mut text = String::new(alloc);
+// The texts of names, with a blank behind each.
+fn texts(alloc: Global, names: &[Name]) -> Result<String, Fail> {
+    let mut all = String::new(alloc);
     for name in names {
-        let name = name_text(alloc, name)?;
-        if let Some((bottom, _)) = name.as_str().split_once('.') {
-            text.push_str(bottom)?;
-        } else {
-            text.push_str(name.as_str())?;
-        }
-        text.push_str(" ")?;
+        all.push_str(name_text(alloc, name)?.as_str())?;
+        all.push(' ')?;
     }
-    Ok(text)
+    Ok(all)
 }
 
 #[test]
-fn selected_places(rt: HostRuntime) -> Result<(), Fail> {
+fn selects_and_looks_into(rt: HostRuntime) -> Result<(), Fail> {
     let alloc = rt.alloc();
-    let tree = tree(alloc)?;
-    for (text, wanted) in [
-        (
-            "/city[@id='o']/hood[@id='n']/block[@id='1']/space[@free='yes']",
-            "space-2 ",
-        ),
-        ("/city/hood/block", "block-1 "),
-        ("/city/hood/block/space[@free='no']", "space-1 space-3 "),
-        ("/city/hood/block/space[@id='a b']", ""),
-        ("/hood", ""),
-    ] {
-        let mut names = Vec::new(alloc);
-        for place in select(alloc, &tree, &query(alloc, text)?)? {
-            names.push(place.name)?;
-        }
-        assert_eq!(rt; bottoms(alloc, &names)?.as_str(), wanted);
-    }
-    Ok(())
-}
-
-#[test]
-fn nodes_that_are_looked_into(rt: HostRuntime) -> Result<(), Fail> {
-    let alloc = rt.alloc();
-    let tree = tree(alloc)?;
-    for (text, wanted) in [
-        ("/city/hood/block", "block-1 space-1 space-2 space-3 "),
+    let city = read_city(alloc, CITY.as_bytes())?;
+    let second = "space-2.block-1.hood-n.city-o ";
+    let spaces =
+        "space-1.block-1.hood-n.city-o space-2.block-1.hood-n.city-o space-3.block-1.hood-n.city-o ";
+    let block =
+        "block-1.hood-n.city-o space-1.block-1.hood-n.city-o space-2.block-1.hood-n.city-o space-3.block-1.hood-n.city-o ";
+    for (text, places, full) in [
+        (FREE, second, spaces),
+        ("/city/hood/block[@id='1']", "block-1.hood-n.city-o ", block),
+        ("/city/hood/block/space", spaces, spaces),
         (
             "/city/hood/block/space[@free='yes'][@id='2']",
-            "space-1 space-2 space-3 ",
+            second,
+            spaces,
         ),
-        ("/city/hood/block/space[@id='2'][@free='yes']", "space-2 "),
-        ("/city/hood/block/space[@id='2'][@free='no']", "space-2 "),
-        ("/city[@free='x']/hood", "city-o "),
-        ("/city/hood[@id='x']", ""),
+        (
+            "/city/hood/block/space[@id='2'][@free='yes']",
+            second,
+            second,
+        ),
+        ("/city/hood/block/space[@id='2'][@free='no']", "", second),
+        (
+            "/city/hood/block[@free='no']/space",
+            "",
+            "block-1.hood-n.city-o ",
+        ),
+        ("/city/hood/block/space/space", "", ""),
+        ("/city/hood[@id='a b']", "", ""),
+        ("/city/block[@id='n']", "", ""),
+        ("/hood", "", ""),
     ] {
-        let found = evaluate(alloc, &tree, &query(alloc, text)?)?;
-        assert_eq!(rt; bottoms(alloc, &found.full)?.as_str(), wanted);
+        let query = parse(alloc, text, city.kinds.as_slice())?;
+        let found = evaluate(alloc, &city.tree, &query)?;
+        let mut names = Vec::new(alloc);
+        for place in &found.places {
+            assert!(rt; place.path.is_empty());
+            names.push(place.name.copy()?)?;
+        }
+        assert_eq!(rt; texts(alloc, &names)?.as_str(), places, "at {text}");
+        assert_eq!(rt; texts(alloc, &found.full)?.as_str(), full, "at {text}");
+        assert_eq!(rt;
+            select(alloc, &city.tree, &query)?.len(),
+            names.len(),
+            "at {text}"
+        );
     }
     Ok(())
 }
 
 #[test]
-fn an_answer_is_json(rt: HostRuntime) -> Result<(), Fail> {
+fn answers(rt: HostRuntime) -> Result<(), Fail> {
     let alloc = rt.alloc();
-    let text = answer(
-        alloc,
-        &tree(alloc)?,
-        &query(alloc, "/city/hood/block/space[@free='yes']")?,
-    )?;
+    let city = read_city(alloc, CITY.as_bytes())?;
+    for (text, wanted) in [
+        (
+            FREE,
+            r#"[{"at":"space-2.block-1.hood-n.city-o","is":{"attrs":{"free":"yes"},"id":"2","kind":"space","nodes":[],"plain":[]}}]"#,
+        ),
+        ("/hood", "[]"),
+    ] {
+        let query = parse(alloc, text, city.kinds.as_slice())?;
+        let bytes = answer(alloc, &city.tree, &query)?;
+        assert_eq!(rt; str::from_utf8(&bytes)?, wanted, "at {text}");
+    }
+    Ok(())
+}
+
+#[test]
+fn a_node_without_children(rt: HostRuntime) -> Result<(), Fail> {
+    let alloc = rt.alloc();
+    let tree = Tree::new(alloc, label("city", "o")?, Local::new(alloc));
+    let kinds = [Kind::new("city")?, Kind::new("hood")?];
+    for (text, places, full) in [
+        ("/city", 1, 1),
+        ("/city[@id='o']", 1, 1),
+        ("/city[@id='p']", 0, 0),
+        ("/city/hood", 0, 0),
+        ("/city/hood[@id='n']", 0, 0),
+    ] {
+        let query = parse(alloc, text, &kinds)?;
+        let found = evaluate(alloc, &tree, &query)?;
+        assert_eq!(rt; found.places.len(), places, "at {text}");
+        assert_eq!(rt; found.full.len(), full, "at {text}");
+    }
+    Ok(())
+}
+
+fn note(alloc: Global, text: &str) -> Result<Plain, TextError> {
+    Ok(Plain {
+        tag: Tag::new("note")?,
+        attrs: Attrs::new(alloc),
+        text: Text::new(alloc, text)?,
+        kids: Sequence::new(alloc),
+    })
+}
+
+#[test]
+fn items_of_plain_elements(rt: HostRuntime) -> Result<(), Fail> {
+    let alloc = rt.alloc();
+    let mut outer = note(alloc, "")?;
+    outer.kids.push(note(alloc, "x")?)?;
+    let mut local = Local::new(alloc);
+    local.plain.push(outer)?;
+    let tree = Tree::new(alloc, label("city", "o")?, local);
+    let mut places = Vec::new(alloc);
+    for (id, path) in [
+        ("o", [0, 0].as_slice()),
+        ("o", [0, 1].as_slice()),
+        ("o", [1].as_slice()),
+        ("p", [].as_slice()),
+    ] {
+        let mut name = Name::document(alloc);
+        name.push(label("city", id)?)?;
+        places.push(Place {
+            name,
+            path: Sequence::from_vec(Vec::from_slice(alloc, path)?),
+        })?;
+    }
+    places.push(Place {
+        name: Name::document(alloc),
+        path: Sequence::new(alloc),
+    })?;
+    let bytes = write_items(alloc, &items_at(alloc, &tree, &places)?)?;
     assert_eq!(rt;
-        str::from_utf8(&text)?,
-        "[{\"at\":\"space-2.block-1.hood-n.city-o\",\"is\":{\"attrs\":{\"free\":\"yes\"},\"id\":\"2\",\"kind\":\"space\",\"nodes\":[],\"plain\":[]}}]"
+        str::from_utf8(&bytes)?,
+        r#"[{"at":"city-o","is":{"attrs":{},"kids":[],"tag":"note","text":"x"}}]"#
     );
     Ok(())
 }

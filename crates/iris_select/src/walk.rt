@@ -1,5 +1,11 @@
 //! The walk that finds what a query selects.
-ghost use Rattle.std.specs.Prelude.{◌≡◌};
+ghost use Rattle.std.specs.Prelude.{◌≡◌, ◌++◌, map, Some, IfOk, IfSome, OnOk};
+ghost use Rattle.std.specs.List.{list_all};
+ghost use Rattle.iris_tree.specs.Universe.{nodes_of, children_of};
+ghost use Rattle.iris_tree.specs.Document.{a_node, place_of};
+ghost use Rattle.iris_xpath.specs.Meaning.{is_on_id, holds, fits, tested_with_a_look, selected, full_names};
+ghost use Rattle.iris_select.specs.Places.{edges_of};
+ghost use Rattle.iris_select.specs.Walk.{led_to, all_led_to, names_from, looked_at, all_looked_at, IsOnlyFor};
 
 use crate::place::Place;
 use iris_tree::{Id, Label, Mem, Name, Sequence, Tree};
@@ -17,22 +23,26 @@ pub struct Evaluation {
     pub full: Vec<Name>,
 }
 
-// How the predicates of a step came out at a node.
+// How a step came out at a node.
 #[derive(Clone, Copy)]
 struct Tested {
-    // All of them hold.
+    // The node is of the kind, and all predicates hold.
     passes: bool,
-    // One that was evaluated is on another attribute than `@id`.
+    // A predicate that was evaluated is on another attribute than `@id`.
     looks: bool,
 }
 
 // Whether a predicate is on `@id`, which is told by the label and needs no look at the node.
-fn is_on_id(predicate: &Predicate) -> bool {
+fn is_on_id(predicate: &Predicate) -> bool
+    ensures { result ≡ is_on_id predicate.now }
+{
     predicate.name() == "id"
 }
 
 // Whether a predicate holds at a node: the attribute of that name has that text.
-fn holds(node: &Tree, predicate: &Predicate) -> bool {
+fn holds(node: &Tree, predicate: &Predicate) -> bool
+    ensures { result ≡ holds (a_node node.now) predicate.now }
+{
     if is_on_id(predicate) {
         return node.label().id.as_str() == predicate.value();
     }
@@ -42,10 +52,19 @@ fn holds(node: &Tree, predicate: &Predicate) -> bool {
     }
 }
 
-// Evaluates predicates one after another, up to the first that is false.
-fn test(node: &Tree, predicates: &[Predicate]) -> Tested {
+// Tests a node by its kind, and then by the predicates one after another, up to the first that is false.
+fn test(node: &Tree, step: &Step) -> Tested
+    ensures passes { result.passes ≡ fits (Some (a_node node.now)) step.now }
+    ensures looks { result.looks ≡ tested_with_a_look (Some (a_node node.now)) step.now }
+{
+    if node.label().kind != step.kind() {
+        return Tested {
+            passes: false,
+            looks: false,
+        };
+    }
     let mut looks = false;
-    for predicate in predicates {
+    for predicate in step.predicates() {
         if !is_on_id(predicate) {
             looks = true;
         }
@@ -62,8 +81,28 @@ fn test(node: &Tree, predicates: &[Predicate]) -> Tested {
     }
 }
 
+// The label that a node is to have so that it passes the step or is looked at. There is one where the
+// first predicate is on `@id` and its text is an id.
+fn only_label(step: &Step) -> Option<Label>
+    ensures { IfSome result (λ label. IsOnlyFor label step.now) }
+{
+    let first = step.predicates().first()?;
+    if !is_on_id(first) {
+        return None;
+    }
+    match Id::new(first.value()) {
+        Ok(id) => Some(Label {
+            kind: step.kind(),
+            id,
+        }),
+        Err(_) => None,
+    }
+}
+
 // Adds the names of a node and of all below it.
-fn add_all(alloc: Global, node: &Tree, name: &Name, full: &mut Vec<Name>) -> Mem<()> {
+fn add_all(alloc: Global, node: &Tree, name: &Name, full: &mut Vec<Name>) -> Mem<()>
+    ensures { OnOk result (full.new.items ≡ full.old.items ++ names_from name.now node.now) }
+{
     full.push(name.copy()?)?;
     for child in node.children() {
         add_all(alloc, child, &name.child(*child.label())?, full)?;
@@ -80,11 +119,11 @@ fn visit(
     rest: &[Step],
     above: &Name,
     found: &mut Evaluation,
-) -> Mem<()> {
-    if node.label().kind != step.kind() {
-        return Ok(());
-    }
-    let tested = test(node, step.predicates());
+) -> Mem<()>
+    ensures places { OnOk result (map edges_of found.new.places.items ≡ map edges_of found.old.places.items ++ map place_of (led_to above.now node.now step.now rest.now)) }
+    ensures full { OnOk result (found.new.full.items ≡ found.old.full.items ++ looked_at above.now node.now step.now rest.now) }
+{
+    let tested = test(node, step);
     if !tested.passes && !tested.looks {
         return Ok(());
     }
@@ -93,68 +132,67 @@ fn visit(
         found.full.push(name)?;
         return Ok(());
     }
-    if rest.is_empty() {
+    let Some((next, further)) = rest.split_first() else {
         found.places.push(Place {
             name: name.copy()?,
             path: Sequence::new(alloc),
         })?;
         return add_all(alloc, node, &name, &mut found.full);
-    }
+    };
     if tested.looks {
         found.full.push(name.copy()?)?;
     }
-    descend(alloc, node, rest, &name, found)
+    descend(alloc, node, next, further, &name, found)
 }
 
-// Goes on with further steps at the children of a node. Where the first predicate of the step is on
-// `@id`, no other child than the one with that label passes or is looked at.
+// Goes on with a step and the further ones at the children of a node. Where one label alone passes the
+// step or is looked at, no other child is visited.
 #[cycle(walking)]
 fn descend(
     alloc: Global,
     node: &Tree,
-    steps: &[Step],
+    step: &Step,
+    rest: &[Step],
     name: &Name,
     found: &mut Evaluation,
-) -> Mem<()> {
-    let Some((step, rest)) = steps.split_first() else {
-        return Ok(());
-    };
-    match step.predicates().first() {
-        Some(predicate) if is_on_id(predicate) => {
-            let Ok(id) = Id::new(predicate.value()) else {
-                return Ok(());
-            };
-            let label = Label {
-                kind: step.kind(),
-                id,
-            };
-            match node.child(&label) {
-                Some(child) => visit(alloc, child, step, rest, name, found),
-                None => Ok(()),
-            }
-        }
-        _ => {
-            for child in node.children() {
-                visit(alloc, child, step, rest, name, found)?;
-            }
-            Ok(())
-        }
+) -> Mem<()>
+    ensures places { OnOk result (map edges_of found.new.places.items ≡ map edges_of found.old.places.items ++ map place_of (all_led_to name.now (nodes_of (children_of node.now)) step.now rest.now)) }
+    ensures full { OnOk result (found.new.full.items ≡ found.old.full.items ++ all_looked_at name.now (nodes_of (children_of node.now)) step.now rest.now) }
+{
+    let children = node.children();
+    if let Some(label) = only_label(step) {
+        return match node.child(&label) {
+            Some(child) => visit(alloc, child, step, rest, name, found),
+            None => Ok(()),
+        };
     }
+    for child in children {
+        visit(alloc, child, step, rest, name, found)?;
+    }
+    Ok(())
 }
 
 /// Evaluates a query from the document on, whose one child is the top node.
-pub fn evaluate(alloc: Global, tree: &Tree, query: &Query) -> Mem<Evaluation> {
+pub fn evaluate(alloc: Global, tree: &Tree, query: &Query) -> Mem<Evaluation>
+    ensures places { IfOk result (λ found. map edges_of found.places.items ≡ selected tree.now query.now) }
+    ensures full { IfOk result (λ found. found.full.items ≡ full_names tree.now query.now) }
+{
     let mut found = Evaluation {
         places: Vec::new(alloc),
         full: Vec::new(alloc),
     };
-    if let Some((step, rest)) = query.steps().split_first() {
-        visit(alloc, tree, step, rest, &Name::document(alloc), &mut found)?;
-    }
+    let Some((step, rest)) = query.steps().split_first() else {
+        return Ok(found);
+    };
+    // What it ensures of the order of siblings is what the meaning rests on.
+    let _ = tree.children();
+    visit(alloc, tree, step, rest, &Name::document(alloc), &mut found)?;
     Ok(found)
 }
 
 /// The places that a query selects, in the order of places, each once (XPath 1.0, 2 and 3.3).
-pub fn select(alloc: Global, tree: &Tree, query: &Query) -> Mem<Vec<Place>> {
+pub fn select(alloc: Global, tree: &Tree, query: &Query) -> Mem<Vec<Place>>
+    ensures { IfOk result (λ places. map edges_of places.items ≡ selected tree.now query.now) }
+{
     Ok(evaluate(alloc, tree, query)?.places)
 }

@@ -1,5 +1,13 @@
+use Rattle.std.proofs.Common.{◌≡◌, ◌++◌, map, drop}
+use Rattle.iris_tree.specs.Universe.{nodes_of}
+use Rattle.iris_tree.specs.Document.{all_names_of}
 use Rattle.iris_tree.specs.NodeCode.{size_of}
+use Rattle.iris_select.specs.Walk.{names_from}
 use Rattle.iris_select.proofs.walk.+add_all.Given as goal
 
 abbrev pub decreases-add_all : goal.decreases-add_all
 decreases-add_all l = size_of l.node.now
+
+-- the names so far, and those that are left, are all
+abbrev pub invariant-loop-child : goal.invariant-loop-child
+invariant-loop-child l = l.full.items ++ map (λ m. l.name ++ m) (all_names_of (nodes_of (drop l.child-index l.child-items))) ≡ l.fn.full.items ++ names_from l.name l.node
