@@ -6,7 +6,7 @@ use Rattle.iris_base.specs.declared.name.Label.{Label}
 use Rattle.iris_base.specs.NameOrder.{label_eq, labels_equiv}
 use Rattle.iris_base.proofs.Labels.{label_eq-Decides}
 use Rattle.iris_tree.specs.declared.plain.Plain.{Plain}
-use Rattle.iris_tree.specs.Universe.{Node, node, Nodes, no_nodes, nodes, list_of, label_of, children_of, child_of}
+use Rattle.iris_tree.specs.Universe.{Node, node, Nodes, no_nodes, nodes, list_of, label_of, child_of}
 use Rattle.iris_tree.specs.Document.{Edge, position, label, Place, place_of, Part, below_plain, below_node, part_at_place, numbered, plain_places, node_places, all_node_places, places, names_of}
 use Rattle.iris_xpath.specs.Syntax.{Main, Syntax}
 use Rattle.iris_xpath.specs.Meaning.{edge_eq, is_parent, is_above, fits, step_to, steps_to, selected, tested_with_a_look, is_looked_into, full_names}
@@ -229,8 +229,10 @@ some_later false t x fs h = h
 some_kept : (t keeps : Place → Bool) (x : Place) (ys : List Place) → IsAmong x ys → t x ≡ true → keeps x ≡ true → list_any t (filter keeps ys) ≡ true
 some_kept t keeps x [] h k l = absurd h
 some_kept t keeps x (y ∷ ys) h k l =
-    elim h [ inl e ↦ some_here (keeps y) true t y (filter keeps ys) (subst (λ (z : Place). keeps z ≡ true) e l) (subst (λ (z : Place). t z ≡ true) e k)
-           | inr r ↦ some_later (keeps y) t y (filter keeps ys) (some_kept t keeps x ys r k l) ]
+    elim h [
+      | inl e ↦ some_here (keeps y) true t y (filter keeps ys) (subst (λ (z : Place). keeps z ≡ true) e l) (subst (λ (z : Place). t z ≡ true) e k)
+      | inr r ↦ some_later (keeps y) t y (filter keeps ys) (some_kept t keeps x ys r k l)
+    ]
 
 kept_some_step : (b c : Bool) (t keeps : Place → Bool) (x : Place) (fs : List Place) → keeps x ≡ b → t x ≡ c → (d : Bool) → ((y : Place) → t y ≡ true → keeps y ≡ true → d ≡ true) → (list_any t fs ≡ true → d ≡ true) → list_any t (cond b (x ∷ fs) fs) ≡ true → d ≡ true
 kept_some_step true true t keeps x fs e f d h k l = h x f e
@@ -253,8 +255,8 @@ context_begins test document q place =
     same_bool _ _
     (kept_some (λ front. begins test front place) (reached at q) (places document) _ (λ front h k. led test at q front place h k))
     (λ h.
-        let p = front_led test at q place h in
-        some_kept (λ front. begins test front place) (reached at q) (front_of q place) (places document) (place_among document q (front_of q place) p.1) p.0 p.1)
+    let p = front_led test at q place h in
+    some_kept (λ front. begins test front place) (reached at q) (front_of q place) (places document) (place_among document q (front_of q place) p.1) p.0 p.1)
 
 any_same : (t u : Place → Bool) → ((x : Place) → t x ≡ u x) → (xs : List Place) → list_any t xs ≡ list_any u xs
 any_same t u h [] = refl
@@ -315,9 +317,9 @@ looked_into document q [] place = any_above document q place ∙ leads_same (λ 
 looked_into document q (s ∷ ss) place =
     let at = part_at_place document in
     let here : (list_any (λ above. is_parent above place) (context_of document q) && tested_with_a_look (at place) s) ≡ leads (λ a p. is_edge p && tested_with_a_look (a p) s) at q place =
-        ap (λ b. b && tested_with_a_look (at place) s) (any_parent document q place) ∙ leads_and (λ a p. is_edge p) (λ o. tested_with_a_look o s) at q place in
+    ap (λ b. b && tested_with_a_look (at place) s) (any_parent document q place) ∙ leads_and (λ a p. is_edge p) (λ o. tested_with_a_look o s) at q place in
     let later : is_looked_into document (step_to document (context_of document q) s) ss place ≡ leads (λ a p. leads (looked ss) a (s ∷ []) p) at q place =
-        ap (λ (c : List Place). is_looked_into document c ss place) (context_step document q s) ∙ looked_into document (q ++ s ∷ []) ss place ∙ leads_append (looked ss) at q (s ∷ []) place in
+    ap (λ (c : List Place). is_looked_into document c ss place) (context_step document q s) ∙ looked_into document (q ++ s ∷ []) ss place ∙ leads_append (looked ss) at q (s ∷ []) place in
     rw (here, later) (leads_or (λ a p. is_edge p && tested_with_a_look (a p) s) (λ a p. leads (looked ss) a (s ∷ []) p) at q place)
 
 -- an evaluation looks into the nodes whose places its steps look into
