@@ -1,9 +1,10 @@
 //! The walk that finds what a query selects.
 ghost use Rattle.std.specs.Prelude.{◌≡◌, ◌++◌, map, Some, IfOk, IfSome, OnOk};
-ghost use Rattle.std.specs.List.{list_all};
+ghost use Rattle.std.specs.List.Sorted.{IsStrictlySortedBy};
 ghost use Rattle.iris_tree.specs.Universe.{nodes_of, children_of};
 ghost use Rattle.iris_tree.specs.Document.{a_node, place_of};
 ghost use Rattle.iris_xpath.specs.Meaning.{is_on_id, holds, fits, tested_with_a_look, selected, full_names};
+ghost use Rattle.iris_xpath.specs.PlaceOrder.{place_cmp};
 ghost use Rattle.iris_select.specs.Places.{edges_of};
 ghost use Rattle.iris_select.specs.Walk.{led_to, all_led_to, names_from, looked_at, all_looked_at, IsOnlyFor};
 
@@ -175,6 +176,7 @@ fn descend(
 /// Evaluates a query from the document on, whose one child is the top node.
 pub fn evaluate(alloc: Global, tree: &Tree, query: &Query) -> Mem<Evaluation>
     ensures places { IfOk result (λ found. map edges_of found.places.items ≡ selected tree.now query.now) }
+    ensures ordered { IfOk result (λ found. IsStrictlySortedBy place_cmp (map edges_of found.places.items)) }
     ensures full { IfOk result (λ found. found.full.items ≡ full_names tree.now query.now) }
 {
     let mut found = Evaluation {
@@ -192,7 +194,8 @@ pub fn evaluate(alloc: Global, tree: &Tree, query: &Query) -> Mem<Evaluation>
 
 /// The places that a query selects, in the order of places, each once (XPath 1.0, 2 and 3.3).
 pub fn select(alloc: Global, tree: &Tree, query: &Query) -> Mem<Vec<Place>>
-    ensures { IfOk result (λ places. map edges_of places.items ≡ selected tree.now query.now) }
+    ensures value { IfOk result (λ places. map edges_of places.items ≡ selected tree.now query.now) }
+    ensures ordered { IfOk result (λ places. IsStrictlySortedBy place_cmp (map edges_of places.items)) }
 {
     Ok(evaluate(alloc, tree, query)?.places)
 }
