@@ -1,5 +1,5 @@
 -- Why the play of a script goes no further, by the errors of what it calls.
-use Rattle.std.specs.Prelude.{◌≡◌, List, [], ◌∷◌, ℕ, Result, Ok, Err, codes}
+use Rattle.std.specs.Prelude.{◌≡◌, List, [], ◌∷◌, ℕ, codes}
 use Rattle.iris_json.specs.declared.out.Why.TheVariants.{Shape}
 use Rattle.iris_json.specs.declared.city.CityError.{CityError}
 use Rattle.iris_json.specs.declared.city.CityError.TheVariants as city
@@ -34,29 +34,13 @@ abbrev pub of_query : QueryError → Halt
 of_query query.Later = BadLine Shape
 of_query query.Memory = Memory
 
--- neither the source nor the sink is at fault
-abbrev pub IsNoFault : Halt → Type 0
-IsNoFault ReadFault = ⊥
-IsNoFault WriteFault = ⊥
-IsNoFault (BadLine why) = Unit {0}
-IsNoFault TooLong = Unit {0}
-IsNoFault Memory = Unit {0}
-
--- the source is not at fault
-abbrev pub IsNoReadFault : Halt → Type 0
-IsNoReadFault ReadFault = ⊥
-IsNoReadFault WriteFault = Unit {0}
-IsNoReadFault (BadLine why) = Unit {0}
-IsNoReadFault TooLong = Unit {0}
-IsNoReadFault Memory = Unit {0}
-
--- the sink is not at fault
-abbrev pub IsNoWriteFault : Halt → Type 0
-IsNoWriteFault ReadFault = Unit {0}
-IsNoWriteFault WriteFault = ⊥
-IsNoWriteFault (BadLine why) = Unit {0}
-IsNoWriteFault TooLong = Unit {0}
-IsNoWriteFault Memory = Unit {0}
+-- the sink is at fault, or there was no memory
+abbrev pub IsOfWriting : Halt → Type 0
+IsOfWriting ReadFault = ⊥
+IsOfWriting WriteFault = Unit {0}
+IsOfWriting (BadLine why) = ⊥
+IsOfWriting TooLong = ⊥
+IsOfWriting Memory = Unit {0}
 
 -- the words ask to play a script without a store
 abbrev pub IsPlay : List (List ℕ) → Type 0

@@ -28,3 +28,7 @@ Took limit old new line Whole = Consumes old new (ended line) × IsLine limit li
 Took limit old new line End = Consumes old new [] × IsAtEnd new
 Took limit old new line Cut = Consumes old new line × IsLine limit line × (line ≢ []) × IsAtEnd new
 Took limit old new line Long = Consumes old new line × NoLf line × (length line ≡ limit + 1)
+
+-- bytes without an LF were taken
+abbrev pub TookCut : Option (List ℕ) → Option (List ℕ) → Type 0
+TookCut old new = (cut : List ℕ) × Consumes old new cut × NoLf cut

@@ -1,9 +1,9 @@
 //! Bytes and lines of a source. A line ends in an LF, the byte 10.
 
-ghost use Rattle.std.specs.Prelude.{◌≡◌, ℕ, ◌<◌, ◌≤◌, ◌^◌, List, IfOk, IsErrOf};
+ghost use Rattle.std.specs.Prelude.{◌≡◌, ℕ, ◌<◌, ◌≤◌, ◌^◌, List, IfOk, IfErr, IsErrOf};
 ghost use Rattle.std.specs.Io.KnownBytes.{Consumes};
 ghost use Rattle.iris_cli.specs.Outside.{HasCause, TakesByte};
-ghost use Rattle.iris_cli.specs.Lines.{Took};
+ghost use Rattle.iris_cli.specs.Lines.{Took, TookCut};
 
 use crate::source::{Source, SourceError};
 
@@ -44,6 +44,7 @@ pub(crate) fn next_line<S: Source>(
     requires { limit < 2 ^ 32 }
     ensures took { IfOk result (λ next. Took limit (S.left source.old) (S.left source.new) line.new.items next) }
     ensures failed { IsErrOf result SourceError.Failed → Consumes (S.left source.old) (S.left source.new) line.new.items }
+    ensures cut { IfErr result (λ _. TookCut (S.left source.old) (S.left source.new)) }
     ensures cause { HasCause SourceError.Failed (S.faults source.old) (S.faults source.new) result }
 {
     line.clear();

@@ -1,7 +1,9 @@
 //! The play of a script.
-ghost use Rattle.std.specs.Prelude.{◌≡◌, ◌↔◌, ◌<◌, ◌⊎◌, IsTrue, IsErrOf};
+ghost use Rattle.std.specs.Prelude.{◌≡◌, ◌↔◌, ◌<◌, ◌≤◌, ◌⊎◌, IsTrue};
 ghost use Rattle.iris_cli.specs.Outside.{HasCause};
 ghost use Rattle.iris_cli.specs.Halt.{IsPlay};
+ghost use Rattle.iris_cli.specs.Played.{PlaysOn};
+ghost use Rattle.iris_cli.specs.Stepped.{RanTo, status_of, Closes};
 
 use crate::halt::Halt;
 use crate::script::{MOST_BYTES, Script};
@@ -9,7 +11,7 @@ use crate::session::{Session, put};
 use crate::sink::Sink;
 use crate::source::Source;
 use crate::status::Status;
-use iris_json::{Out, Which};
+use iris_json::Which;
 use iris_tree::Text;
 use std::alloc::Global;
 
@@ -30,22 +32,48 @@ fn run<S: Source, K: Sink>(
     source: &mut S,
     sink: &mut K,
 ) -> Result<(), Halt>
+    requires unread { script.old.number ≡ 0 }
+    requires whole { script.old.left ≡ 268435456 }
+    ensures ran { RanTo (S.left source.old) (S.left source.new) (K.held sink.old) (K.held sink.new) script.new.number result }
     ensures read { HasCause Halt.ReadFault (S.faults source.old) (S.faults source.new) result }
     ensures write { HasCause Halt.WriteFault (K.faults sink.old) (K.faults sink.new) result }
 {
     script.next(source)?;
     let mut session = Session::start(alloc, script.line())?;
     'lines: while script.next(source)? {
-        session.run(script.line(), sink)?;
+        session.run(alloc, script.line(), sink)?;
     }
     Ok(())
 }
 
-// Writes the last line, and answers the status that it tells.
-fn end<K: Sink>(alloc: Global, out: &Out, told: Status, sink: &mut K) -> Status
-    ensures told { (result ≡ told) ⊎ (result ≡ Status.Memory) ⊎ ((result ≡ Status.WriteFault) × (K.faults sink.old < K.faults sink.new)) }
+// The status of a run that ended so, at the line of that number.
+fn status_of(ran: Result<(), Halt>, number: u64) -> Status
+    ensures { result ≡ status_of number ran }
 {
-    match put(alloc, out, sink) {
+    match ran {
+        Ok(()) => Status::Done,
+        Err(Halt::ReadFault) => Status::ReadFault,
+        Err(Halt::WriteFault) => Status::WriteFault,
+        Err(Halt::BadLine { why }) => Status::BadScript { line: number, why },
+        Err(Halt::TooLong) => Status::Limit {
+            which: Which::Script,
+            count: MOST_BYTES as u64 + 1,
+        },
+        Err(Halt::Memory) => Status::Memory,
+    }
+}
+
+// Writes the last line where the status has one, and answers the status, or why that line was not
+// written.
+fn end<K: Sink>(alloc: Global, told: Status, sink: &mut K) -> Status
+    ensures closes { Closes (K.held sink.old) (K.held sink.new) told result }
+    ensures later { K.faults sink.old ≤ K.faults sink.new }
+    ensures cause { result ≡ Status.WriteFault → (told ≡ Status.WriteFault) ⊎ (K.faults sink.old < K.faults sink.new) }
+{
+    let Some(out) = told.last_out() else {
+        return told;
+    };
+    match put(alloc, &out, sink) {
         Ok(()) => told,
         Err(Halt::WriteFault) => Status::WriteFault,
         Err(_) => Status::Memory,
@@ -68,6 +96,7 @@ pub fn play<S: Source, K: Sink>(
 ) -> Status
     ensures usage { (result ≡ Status.Usage) ↔ (IsPlay words.now → ⊥) }
     ensures untouched { result ≡ Status.Usage → (source.new ≡ source.old) × (sink.new ≡ sink.old) }
+    ensures played { IsPlay words.now → PlaysOn (S.left source.old) (S.left source.new) (K.held sink.old) (K.held sink.new) result }
     ensures read { result ≡ Status.ReadFault → S.faults source.old < S.faults source.new }
     ensures write { result ≡ Status.WriteFault → K.faults sink.old < K.faults sink.new }
 {
@@ -75,29 +104,6 @@ pub fn play<S: Source, K: Sink>(
         return Status::Usage;
     }
     let mut script = Script::new(alloc);
-    match run(alloc, &mut script, source, sink) {
-        Ok(()) => Status::Done,
-        Err(Halt::ReadFault) => Status::ReadFault,
-        Err(Halt::WriteFault) => Status::WriteFault,
-        Err(Halt::Memory) => Status::Memory,
-        Err(Halt::BadLine { why }) => {
-            let line = script.number();
-            end(
-                alloc,
-                &Out::Ended { line, why },
-                Status::BadScript { line, why },
-                sink,
-            )
-        }
-        Err(Halt::TooLong) => {
-            let which = Which::Script;
-            let count = MOST_BYTES as u64 + 1;
-            end(
-                alloc,
-                &Out::Limit { count, which },
-                Status::Limit { which, count },
-                sink,
-            )
-        }
-    }
+    let ran = run(alloc, &mut script, source, sink);
+    end(alloc, status_of(ran, script.number()), sink)
 }

@@ -1,7 +1,7 @@
 //! A script, line by line.
-ghost use Rattle.std.specs.Prelude.{◌≡◌, ◌≤◌, ◌<◌, IsTrue, IfOk, IfErr};
+ghost use Rattle.std.specs.Prelude.{◌≡◌, ◌+◌, ◌≤◌, ◌<◌};
 ghost use Rattle.iris_cli.specs.Outside.{HasCause};
-ghost use Rattle.iris_cli.specs.Halt.{IsNoWriteFault};
+ghost use Rattle.iris_cli.specs.Taken.{TakesNext};
 
 use crate::halt::Halt;
 use crate::line::{NextLine, next_line};
@@ -24,7 +24,10 @@ pub struct Script {
 
 impl Script {
     /// A script of which nothing is read.
-    pub fn new(alloc: Global) -> Script {
+    pub fn new(alloc: Global) -> Script
+        ensures number { result.number ≡ 0 }
+        ensures left { result.left ≡ 268435456 }
+    {
         Script {
             line: Vec::new(alloc),
             number: 0,
@@ -33,23 +36,28 @@ impl Script {
     }
 
     /// The present line, without its LF.
-    pub fn line(&self) -> &[u8] {
+    pub fn line(&self) -> &[u8]
+        ensures { result.now ≡ self.now.line.items }
+    {
         self.line.as_slice()
     }
 
     /// The number of the present line, from 1.
-    pub fn number(&self) -> u64 {
+    pub fn number(&self) -> u64
+        ensures { result ≡ self.now.number }
+    {
         self.number
     }
 
     /// Reads the next line, and answers whether there is one.
     pub fn next<S: Source>(&mut self, source: &mut S) -> Result<bool, Halt>
+        requires room { self.old.number < 18446744073709551615 }
+        ensures took { TakesNext self.old.number self.old.left (S.left source.old) (S.left source.new) self.new.line.items self.new.left result }
+        ensures number { self.new.number ≡ self.old.number + 1 }
         ensures cause { HasCause Halt.ReadFault (S.faults source.old) (S.faults source.new) result }
-        ensures reads { IfErr result IsNoWriteFault }
-        ensures shorter { IfOk result (λ more. IsTrue more → self.new.left < self.old.left) }
     {
         let first = self.number == 0;
-        self.number = self.number.saturating_add(1);
+        self.number += 1;
         match next_line(source, &mut self.line, self.left)? {
             NextLine::Whole => {
                 if self.line.len() >= self.left {

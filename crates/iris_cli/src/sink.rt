@@ -7,6 +7,7 @@ ghost use Rattle.std.specs.declared.option.Option.{Option};
 ghost use Rattle.iris_cli.specs.Outside.{HasCause, Puts};
 
 use crate::TRIES;
+use iris_tree::Memory;
 use std::alloc::Global;
 use std::error::Error;
 use std::fmt;
@@ -22,10 +23,15 @@ pub enum SinkError {
 }
 
 impl fmt::Display for SinkError {
+    ghost use Rattle.std.specs.Prelude.{Some};
+    ghost use Rattle.iris_cli.specs.Messages.{sink_message};
+
+    ghost output = { λ error. Some (sink_message error) };
+
     fn fmt<W: fmt::Write>(&self, f: &mut fmt::Formatter<W>) -> fmt::Result {
         match self {
-            SinkError::Failed => write!(f, "the sink failed"),
-            SinkError::Memory => write!(f, "out of memory"),
+            SinkError::Failed => f.write_str("the sink failed"),
+            SinkError::Memory => fmt::Display::fmt(&Memory, f),
         }
     }
 }

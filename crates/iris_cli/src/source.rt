@@ -9,6 +9,7 @@ ghost use Rattle.std.specs.declared.option.Option.{Option};
 ghost use Rattle.iris_cli.specs.Outside.{HasCause};
 
 use crate::TRIES;
+use iris_tree::Memory;
 use std::alloc::Global;
 use std::error::Error;
 use std::io::{BufReader, ErrorKind, Read};
@@ -24,10 +25,15 @@ pub enum SourceError {
 }
 
 impl fmt::Display for SourceError {
+    ghost use Rattle.std.specs.Prelude.{Some};
+    ghost use Rattle.iris_cli.specs.Messages.{source_message};
+
+    ghost output = { λ error. Some (source_message error) };
+
     fn fmt<W: fmt::Write>(&self, f: &mut fmt::Formatter<W>) -> fmt::Result {
         match self {
-            SourceError::Failed => write!(f, "the source failed"),
-            SourceError::Memory => write!(f, "out of memory"),
+            SourceError::Failed => f.write_str("the source failed"),
+            SourceError::Memory => fmt::Display::fmt(&Memory, f),
         }
     }
 }

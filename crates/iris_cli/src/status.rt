@@ -1,7 +1,8 @@
 //! How a run of the program ends.
 ghost use Rattle.std.specs.Prelude.{◌≡◌};
+ghost use Rattle.iris_cli.specs.Played.{last_out};
 
-use iris_json::{Which, Why};
+use iris_json::{Out, Which, Why};
 
 /// How a run of the program ended. After `BadScript` and `Limit` a last line tells why.
 #[derive(Clone, Copy, Debug, PartialEq, Eq)]
@@ -33,6 +34,17 @@ impl Status {
             Status::WriteFault => 5,
             Status::Limit { .. } => 7,
             Status::Memory => 9,
+        }
+    }
+
+    /// The last line of a run that ends so, if it has one.
+    pub(crate) fn last_out(self) -> Option<Out>
+        ensures { result ≡ last_out self }
+    {
+        match self {
+            Status::BadScript { line, why } => Some(Out::Ended { line, why }),
+            Status::Limit { which, count } => Some(Out::Limit { count, which }),
+            _ => None,
         }
     }
 }
