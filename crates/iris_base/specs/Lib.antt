@@ -6,4 +6,5 @@ pub mod Refuses
 pub mod Under
 pub mod NameOrder
 pub mod NameText
+pub mod Messages
 pub mod formers

@@ -16,6 +16,11 @@ pub enum TextError {
 }
 
 impl fmt::Display for TextError {
+    ghost use Rattle.std.specs.Prelude.{Some};
+    ghost use Rattle.iris_base.specs.Messages.{text_message};
+
+    ghost output = { λ error. Some (text_message error) };
+
     fn fmt<W: fmt::Write>(&self, f: &mut fmt::Formatter<W>) -> fmt::Result {
         match self {
             TextError::BadText { at } => write!(f, "the text goes off its form at byte {at}"),

@@ -1,6 +1,7 @@
 pub mod Attrs
 pub mod Document
 pub mod LocalText
+pub mod Messages
 pub mod NodeCode
 pub mod TextLen
 pub mod Universe

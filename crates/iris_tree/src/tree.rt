@@ -22,10 +22,15 @@ pub enum InsertError {
 }
 
 impl fmt::Display for InsertError {
+    ghost use Rattle.std.specs.Prelude.{Some};
+    ghost use Rattle.iris_tree.specs.Messages.{insert_message};
+
+    ghost output = { λ error. Some (insert_message error) };
+
     fn fmt<W: fmt::Write>(&self, f: &mut fmt::Formatter<W>) -> fmt::Result {
         match self {
             InsertError::Twin => f.write_str("the node has a child with this label"),
-            InsertError::Memory => f.write_str("out of memory"),
+            InsertError::Memory => fmt::Display::fmt(&Memory, f),
         }
     }
 }
