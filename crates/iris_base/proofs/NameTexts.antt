@@ -4,7 +4,7 @@ use Rattle.iris_base.specs.declared.name.Label.{Label}
 use Rattle.iris_base.specs.NameText.{label_text, dotted}
 
 -- the text of two lists of labels, one behind the other
-dotted-append : (xs ys : List Label) → dotted (xs ++ ys) ≡ dotted xs ++ dotted ys
+pub dotted-append : (xs ys : List Label) → dotted (xs ++ ys) ≡ dotted xs ++ dotted ys
 dotted-append [] ys = refl
 dotted-append (x ∷ xs) ys = rw (dotted-append xs ys) (simp append_assoc)
 

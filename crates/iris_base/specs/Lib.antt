@@ -6,5 +6,6 @@ pub mod Refuses
 pub mod Under
 pub mod NameOrder
 pub mod NameText
+pub mod NameReader
 pub mod Messages
 pub mod formers

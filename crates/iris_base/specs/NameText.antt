@@ -1,6 +1,7 @@
 -- The text of a name.
-use Rattle.std.specs.Prelude.{ℕ, List, [], ◌∷◌, ◌++◌, reverse}
+use Rattle.std.specs.Prelude.{◌≡◌, ℕ, ◌<◌, ◌≤◌, List, [], ◌∷◌, ◌++◌, length, reverse}
 use Rattle.iris_base.specs.declared.name.Label.{Label}
+use Rattle.iris_base.specs.Forms.{IsKind, IsId}
 
 -- kind-id
 abbrev pub label_text : Label → List ℕ
@@ -15,3 +16,23 @@ dotted (l ∷ ls) = label_text l ++ 46 ∷ dotted ls
 abbrev pub name_text : List Label → List ℕ
 name_text [] = []
 name_text (top ∷ below) = dotted (reverse below) ++ label_text top
+
+-- ---- which names have a text
+
+pub record IsLabel (l : Label) : Type 0 where
+  pub kind : IsKind l.kind
+  pub id : IsId l.id
+
+abbrev pub AreLabels : List Label → Type 0
+AreLabels [] = Unit {0}
+AreLabels (l ∷ ls) = IsLabel l × AreLabels ls
+
+-- 1 to 16 labels
+pub record IsName (name : List Label) : Type 0 where
+  pub some : 0 < length name
+  pub few : length name ≤ 16
+  pub labels : AreLabels name
+
+-- the text of such a name
+abbrev pub IsNameText : List ℕ → Type 0
+IsNameText text = (name : List Label) × IsName name × (text ≡ name_text name)

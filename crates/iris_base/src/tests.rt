@@ -1,9 +1,10 @@
 //! Each call once, with answers from outside.
 
-use crate::error::TextError;
+use crate::error::{NameError, TextError};
 use crate::letters::Form;
 use crate::memory::{Mem, Memory};
 use crate::name::{Label, Name};
+use crate::reading::read_name;
 use crate::sequence::Sequence;
 use crate::short::{AgentId, Id, Kind, Tag};
 use crate::spelling::name_text;
@@ -106,6 +107,19 @@ fn prints_texts_and_errors(rt: HostRuntime) -> Result<(), Fail> {
 }
 
 #[test]
+fn prints_why_no_name_was_read(rt: HostRuntime) -> Result<(), Fail> {
+    let alloc = rt.alloc();
+    let bad = NameError::BadName { at: 8 };
+    assert_eq!(rt;
+        format!(in alloc; "{bad}")?.as_str(),
+        "no name goes on at byte 8"
+    );
+    let memory = NameError::from(Memory);
+    assert_eq!(rt; format!(in alloc; "{memory}")?.as_str(), "out of memory");
+    Ok(())
+}
+
+#[test]
 fn sequences(rt: HostRuntime) -> Result<(), Fail> {
     let mut numbers = Sequence::new(rt.alloc());
     assert!(rt; numbers.is_empty());
@@ -178,5 +192,51 @@ fn names_as_keys(rt: HostRuntime) -> Result<(), Fail> {
     assert_eq!(rt; ordered.get(&block).copied(), Some(2));
     assert_eq!(rt; hashed.get(&hood).copied(), Some(1));
     assert_eq!(rt; hashed.get(&block).copied(), None);
+    Ok(())
+}
+
+#[test]
+fn reads_names(rt: HostRuntime) -> Result<(), Fail> {
+    let alloc = rt.alloc();
+    let space = read_name(alloc, "space-7.block-3.hood-north.city-oakland")?;
+    assert_eq!(rt; space.len(), 4);
+    assert_eq!(rt; space.as_slice().first(), Some(&label("city", "oakland")?));
+    assert_eq!(rt;
+        name_text(alloc, &space)?.as_str(),
+        "space-7.block-3.hood-north.city-oakland"
+    );
+    let deep = read_name(
+        alloc,
+        "a-1.b-1.c-1.d-1.e-1.f-1.g-1.h-1.i-1.j-1.k-1.l-1.m-1.n-1.o-1.p-1",
+    )?;
+    assert_eq!(rt; deep.len(), 16);
+    Ok(())
+}
+
+#[test]
+fn refuses_names(rt: HostRuntime) -> Result<(), Fail> {
+    let alloc = rt.alloc();
+    let refused = [
+        ("space-7..city-o", 8),
+        ("", 0),
+        ("city", 4),
+        ("city-", 5),
+        ("city-o.", 7),
+        ("-o", 0),
+        ("c1ty-o", 1),
+        ("city-o-p", 6),
+        ("cityhoodblockspacE-1", 16),
+        ("a-abcdefghijklmnopqrstuvwxy", 26),
+        (
+            "a-1.b-1.c-1.d-1.e-1.f-1.g-1.h-1.i-1.j-1.k-1.l-1.m-1.n-1.o-1.p-1.q-1",
+            63,
+        ),
+    ];
+    for (text, at) in refused {
+        assert_eq!(rt;
+            read_name(alloc, text).err(),
+            Some(NameError::BadName { at })
+        );
+    }
     Ok(())
 }

@@ -15,7 +15,7 @@ mod write;
 pub use attrs::Attrs;
 pub use iris_base::{
     AgentForm, AgentId, Form, Id, IdForm, Kind, KindForm, Label, Letters, Mem, Memory, Name,
-    Sequence, Short, Spelled, Tag, TagForm, Text, TextError, name_text,
+    NameError, Sequence, Short, Spelled, Tag, TagForm, Text, TextError, name_text, read_name,
 };
 pub use json_text::JsonText;
 pub use local::Local;
