@@ -340,7 +340,7 @@ abbrev ended : Label → List Label → Reading
 ended top below = record { done = reverse below; kind = Some top.kind; part = top.id }
 
 -- a text is the text of one name at most
-name_text_once : (n m : List Label) → IsName n → IsName m → name_text n ≡ name_text m → n ≡ m
+pub name_text_once : (n m : List Label) → IsName n → IsName m → name_text n ≡ name_text m → n ≡ m
 name_text_once [] m a b e = absurd (omega (arith, a.some))
 name_text_once (x ∷ xs) [] a b e = absurd (omega (arith, b.some))
 name_text_once (x ∷ xs) (y ∷ ys) a b e =

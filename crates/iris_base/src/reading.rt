@@ -91,10 +91,12 @@ impl Reader {
 
 /// The name whose text it is, as `name_text` writes it. The name has 1 to 16 labels; the document's name
 /// has no text that is read.
+#[tactic(auto, using(crate::proofs::NameReading::name_text_once))]
 pub fn read_name(alloc: Global, text: &str) -> Result<Name, NameError>
     ensures ok { IfOk result (λ name. text.now ≡ name_text name) }
     ensures form { IfOk result IsName }
-    ensures back { (name : List Label) → IsName name → text.now ≡ name_text name → MatchResult result (λ read. read ≡ name) (λ e. e ≡ errors.Memory) }
+    ensures only { (name : List Label) → IsName name → text.now ≡ name_text name → MatchResult result (λ read. read ≡ name) (λ e. e ≡ errors.Memory) }
+    ensures once { (m n : List Label) → IsName m → IsName n → name_text m ≡ name_text n → m ≡ n }
     ensures err { IfErr result (RefusesName text.now) }
 {
     let bytes = text.as_bytes();

@@ -20,8 +20,8 @@ returns-then-not-branch-clause-err c =
     let stuck : step c.loop-at.reader (get_or c.as_bytes-bytes.result.now c.loop-at.at 0) ≡ None = search rules in
     rw (← c.as_bytes-bytes.ensures.value) (stops_name _ _ _ c.loop-at-test.true c.loop-at.invariant.0 c.loop-at.invariant.1 c.loop-at.invariant.2 stuck)
 
-pub returns-then-not-branch-clause-back : goal.returns-then-not-branch-clause-back
-returns-then-not-branch-clause-back c =
+pub returns-then-not-branch-clause-only : goal.returns-then-not-branch-clause-only
+returns-then-not-branch-clause-only c =
     let stuck : step c.loop-at.reader (get_or c.as_bytes-bytes.result.now c.loop-at.at 0) ≡ None = search rules in
     let stops : StopsAt IsNameText c.args.text.now c.loop-at.at
     = rw (← c.as_bytes-bytes.ensures.value) (stops_name _ _ _ c.loop-at-test.true c.loop-at.invariant.0 c.loop-at.invariant.1 c.loop-at.invariant.2 stuck) in
@@ -37,8 +37,8 @@ returns-clause-form c =
     let all = answered _ _ _ _ c.loop-at-test.false c.loop-at.invariant.0 c.loop-at.invariant.1 c.loop-at.invariant.2 c.finish.ensures.ok c.finish.ensures.err in
     IfOk-weaker c.finish.result _ _ (λ name h. h.0) all.0
 
-pub returns-clause-back : goal.returns-clause-back
-returns-clause-back c =
+pub returns-clause-only : goal.returns-clause-only
+returns-clause-only c =
     let all = answered _ _ _ _ c.loop-at-test.false c.loop-at.invariant.0 c.loop-at.invariant.1 c.loop-at.invariant.2 c.finish.ensures.ok c.finish.ensures.err in
     rw (← c.as_bytes-bytes.ensures.value) (read_back c.finish.result _ all.0 all.1)
 
