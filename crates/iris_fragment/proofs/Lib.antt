@@ -1,0 +1,5 @@
+pub mod Named
+pub mod Names
+pub mod Children
+pub mod Parts
+pub mod Kept

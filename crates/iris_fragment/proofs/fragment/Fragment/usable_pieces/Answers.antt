@@ -1,0 +1,18 @@
+use Rattle.std.proofs.Common.{◌≡◌, ◌∙◌, sym, ap, rules, List, [], ◌∷◌, ◌++◌, map, filter_map, Some}
+use Rattle.std.specs.Map.Iter.{deref_pair}
+use Rattle.std.proofs.lemmas.List.{map-append}
+use Rattle.iris_base.specs.declared.name.Label.{Label}
+use Rattle.iris_fragment.specs.declared.held.Held.{Held}
+use Rattle.iris_fragment.specs.Held.{Nodes, named}
+use Rattle.iris_fragment.specs.Usable.{usable_piece}
+use Rattle.iris_fragment.proofs.Parts.{one_more_piece}
+use Rattle.iris_fragment.proofs.fragment.Fragment.usable_pieces.Goals as goal
+
+pub loop-name-preserved-in-Continue-branch-3 : goal.loop-name-preserved-in-Continue-branch-3
+loop-name-preserved-in-Continue-branch-3 c =
+    let node : List Label × Held = (c.in-Some.name.now.items, c.in-Some.node.now) in
+    let gives : usable_piece c.args.floor c.args.now node ≡ Some c.in-Some-2.piece = search rules in
+    let so_far = named (map deref_pair c.loop-name.yielded) in
+    let more : named (map deref_pair (c.loop-name.yielded ++ (c.in-Some.name, c.in-Some.node) ∷ [])) ≡ so_far ++ node ∷ [] = simp map-append in
+    c.in_ok-push.ensures.items ∙ one_more_piece (usable_piece c.args.floor c.args.now) so_far node c.loop-name.pieces.items c.in-Some-2.piece gives c.loop-name.invariant
+    ∙ ap (λ (ns : Nodes). filter_map (usable_piece c.args.floor c.args.now) ns) (sym more)

@@ -1,0 +1,6 @@
+pub mod Held
+pub mod Usable
+pub mod Changes
+pub mod Shape
+pub mod Recency
+pub mod Message

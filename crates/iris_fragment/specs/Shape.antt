@@ -1,0 +1,42 @@
+-- The shape of fragments.
+use Rattle.std.specs.Prelude.{◌≡◌, ◌↔◌, true, false, List, Option, Some, None, option_map}
+use Rattle.std.specs.List.Sorted.{IsStrictlySortedBy}
+use Rattle.std.specs.Map.{keys_of}
+use Rattle.std.specs.Cmp.Lexicographic.{slice_cmp}
+use Rattle.iris_base.specs.declared.name.Label.{Label}
+use Rattle.iris_base.specs.NameOrder.{label_cmp}
+use Rattle.iris_tree.specs.Universe.{Node, label_of, ids_of, node_at}
+use Rattle.iris_fragment.specs.declared.held.Held.{Held}
+use Rattle.iris_fragment.specs.declared.piece.Piece.{Piece}
+use Rattle.iris_fragment.specs.Held.{Nodes, Contents, held_at, is_held, has_place}
+
+-- the name above each held name is the document's or a held one
+abbrev pub IsRooted : Nodes → Type 0
+IsRooted nodes = (name : List Label) → is_held nodes name ≡ true → has_place nodes name ≡ true
+
+-- the names rise, so each is there once
+abbrev pub AreOrdered : Nodes → Type 0
+AreOrdered nodes = IsStrictlySortedBy (slice_cmp label_cmp) (keys_of nodes)
+
+-- the ids of a city's node; none where there is no such node
+abbrev pub ids_at : Node → List Label → Option (List Label)
+ids_at city name = option_map ids_of (node_at city name)
+
+-- a piece of a city's node has its ids
+abbrev pub IsPieceOf : Node → Piece → Type 0
+IsPieceOf city piece = ids_at city piece.name ≡ Some piece.ids
+
+-- each held name is that of a city's node, and is held with the ids of that node
+abbrev pub HaveIdsOf : Node → Nodes → Type 0
+HaveIdsOf city nodes = (name : List Label) (node : Held) → held_at nodes name ≡ Some node → ids_at city name ≡ Some node.ids
+
+-- a fragment of a city: it knows the top node's label, and holds nodes of the city
+pub record IsPartOf (city : Node) (f : Contents) : Type 0 where
+  pub top : f.top ≡ label_of city
+  pub ids : HaveIdsOf city f.nodes
+
+-- the whole shape
+pub record HasShape (city : Node) (f : Contents) : Type 0 where
+  pub ordered : AreOrdered f.nodes
+  pub rooted : IsRooted f.nodes
+  pub part : IsPartOf city f

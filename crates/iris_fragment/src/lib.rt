@@ -1,0 +1,17 @@
+//! What one agent holds of a city's document: nodes that it owns, copies of nodes of other agents, and
+//! nodes of which it knows the ids alone.
+#![tactic(auto)]
+
+mod error;
+mod fragment;
+mod held;
+mod nodes;
+mod piece;
+mod status;
+#[cfg(test)]
+mod tests;
+
+pub use error::EvictError;
+pub use fragment::Fragment;
+pub use piece::{Full, Level, Piece};
+pub use status::Status;
