@@ -1,4 +1,5 @@
--- What a reader answers where a callee failed.
+-- What a reader answers where a callee failed, and what an error prints as.
+use Rattle.std.specs.Prelude.{ℕ, List, codes}
 use Rattle.iris_json.specs.declared.keys.ValueError.{ValueError}
 use Rattle.iris_json.specs.declared.keys.ValueError.TheVariants as values
 use Rattle.iris_json.specs.declared.line.LineError.{LineError}
@@ -31,3 +32,13 @@ text_error texts.Memory = cities.Memory
 abbrev pub insert_error : InsertError → CityError
 insert_error inserts.Twin = cities.BadCity whys.Shape
 insert_error inserts.Memory = cities.Memory
+
+-- the message of an error of reading a line
+abbrev pub line_message : LineError → List ℕ
+line_message (lines.BadLine why) = codes "the line is no line of a script"
+line_message lines.Memory = codes "out of memory"
+
+-- the message of an error of reading the city line
+abbrev pub city_message : CityError → List ℕ
+city_message (cities.BadCity why) = codes "the line is no city line"
+city_message cities.Memory = codes "out of memory"

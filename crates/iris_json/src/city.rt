@@ -28,10 +28,15 @@ const SHAPE: CityError = CityError::BadCity {
 };
 
 impl fmt::Display for CityError {
+    ghost use Rattle.std.specs.Prelude.{Some};
+    ghost use Rattle.iris_json.specs.Errors.{city_message};
+
+    ghost output = { λ error. Some (city_message error) };
+
     fn fmt<W: fmt::Write>(&self, f: &mut fmt::Formatter<W>) -> fmt::Result {
         match self {
             CityError::BadCity { .. } => f.write_str("the line is no city line"),
-            CityError::Memory => f.write_str("out of memory"),
+            CityError::Memory => fmt::Display::fmt(&Memory, f),
         }
     }
 }

@@ -5,7 +5,7 @@ ghost use Rattle.serde_json.specs.View.{members_view};
 ghost use Rattle.iris_json.specs.Lines.{IsLine, ReadsLine, GivesLine};
 
 use crate::keys::{Members, ValueError, has_only, read_value, text_at};
-use iris_tree::{Text, TextError};
+use iris_tree::{Memory, Text};
 use std::alloc::Global;
 use std::error::Error;
 use std::fmt;
@@ -40,10 +40,15 @@ const SHAPE: LineError = LineError::BadLine {
 };
 
 impl fmt::Display for LineError {
+    ghost use Rattle.std.specs.Prelude.{Some};
+    ghost use Rattle.iris_json.specs.Errors.{line_message};
+
+    ghost output = { λ error. Some (line_message error) };
+
     fn fmt<W: fmt::Write>(&self, f: &mut fmt::Formatter<W>) -> fmt::Result {
         match self {
             LineError::BadLine { .. } => f.write_str("the line is no line of a script"),
-            LineError::Memory => f.write_str("out of memory"),
+            LineError::Memory => fmt::Display::fmt(&Memory, f),
         }
     }
 }
