@@ -1,6 +1,5 @@
 -- From the members of an object to attributes.
-use Rattle.std.proofs.Common.{◌≡◌, ℕ, zero, suc, ◌<◌, ◌≤◌, List, [], ◌∷◌, ◌++◌, length, map, String, Global, Ordering, Less, Equal, Greater, string_bytes, string_cmp, nat_cmp, Option, Some, None, Bor, Result, Ok, Err, refl, ap, sym, ◌∙◌, subst, arith}
-use Rattle.std.specs.BTreeMap.{insert_entry}
+use Rattle.std.proofs.Common.{◌≡◌, ℕ, suc, List, [], ◌∷◌, ◌++◌, length, map, String, Global, Ordering, Less, Equal, Greater, string_bytes, string_cmp, nat_cmp, Option, Some, Bor, Err, refl, ap, sym, ◌∙◌, subst, arith}
 use Rattle.std.specs.Cmp.Lexicographic.{slice_cmp}
 use Rattle.std.specs.List.{AllByRecursion}
 use Rattle.std.specs.List.Sorted.{IsStrictlySortedBy}
@@ -10,14 +9,15 @@ use Rattle.std.specs.Iterator.{Yields}
 use Rattle.std.specs.Map.Iter.{TakesFirst, deref_pair}
 use Rattle.std.proofs.lemmas.Map.Iter.{rest_so_far, rest_more}
 use Rattle.serde_json.specs.declared.value.Value.{Value}
-use Rattle.serde_json.specs.Data.{Data, string, Members, no_members, member, put}
+use Rattle.serde_json.specs.Data.{string, put}
 use Rattle.serde_json.specs.View.{view, members_view}
 use Rattle.serde_json.proofs.Views.{Entry, put_last}
 use Rattle.iris_tree.specs.Attrs.{Pairs, with_attr}
 use Rattle.iris_tree.specs.LocalText.{attrs_members}
 use Rattle.iris_json.specs.declared.city.CityError.{CityError}
 use Rattle.iris_json.specs.declared.city.CityError.TheVariants.{BadCity, Memory}
-use Rattle.iris_json.specs.CityLine.{IsAttrName, AreAttrs, Gives}
+use Rattle.iris_json.specs.CityForm.{IsAttrName, IsAttr, AreAttrs}
+use Rattle.iris_json.specs.CityLine.{Gives}
 
 -- an error that one reader may give another may give too
 pub same_error : {X Y : Type 0} (e : CityError) (x : X) (y : Y) → Gives (Err e) x → Gives (Err e) y
@@ -44,21 +44,21 @@ all-match_ordering P Less a b c ha hb hc = ha
 all-match_ordering P Equal a b c ha hb hc = hb
 all-match_ordering P Greater a b c ha hb hc = hc
 
--- one more name
-named_more : (pairs : Pairs) (name text : List ℕ) → IsAttrName name → AllByRecursion (λ p. IsAttrName p.0) pairs → AllByRecursion (λ p. IsAttrName p.0) (with_attr pairs name text)
-named_more [] name text h all = (h, tt)
-named_more (p ∷ pairs) name text h all = all-match_ordering (λ p. IsAttrName p.0) (slice_cmp nat_cmp name p.0) _ _ _ (h, all) all (all.0, named_more pairs name text h all.1)
+-- one more attribute
+attrs_more : (pairs : Pairs) (name text : List ℕ) → IsAttr (name, text) → AllByRecursion IsAttr pairs → AllByRecursion IsAttr (with_attr pairs name text)
+attrs_more [] name text h all = (h, tt)
+attrs_more (p ∷ pairs) name text h all = all-match_ordering IsAttr (slice_cmp nat_cmp name p.0) _ _ _ (h, all) ((all.0.0, h.1), all.1) (all.0, attrs_more pairs name text h all.1)
 
 -- a loop over members has read one attribute more
 pub attr_step : (done : List Entry) (e : Entry) (more : List Entry) (pairs new : Pairs) (name tag text : List ℕ) → IsStrictlySortedBy string_cmp (keys_of (done ++ e ∷ more))
-    → (members_view done ≡ attrs_members pairs) × AllByRecursion (λ p. IsAttrName p.0) pairs → name ≡ string_bytes e.0
-    → (tag ≡ name) × IsAttrName name × (view e.1 ≡ string text) → new ≡ with_attr pairs tag text
-    → (members_view (done ++ e ∷ []) ≡ attrs_members new) × AllByRecursion (λ p. IsAttrName p.0) new
+    → (members_view done ≡ attrs_members pairs) × AllByRecursion IsAttr pairs → name ≡ string_bytes e.0
+    → (tag ≡ name) × IsAttr (name, text) × (view e.1 ≡ string text) → new ≡ with_attr pairs tag text
+    → (members_view (done ++ e ∷ []) ≡ attrs_members new) × AllByRecursion IsAttr new
 attr_step done e more pairs new name tag text sorted so_far named read is =
     let tag_is : tag ≡ string_bytes e.0 = read.0 ∙ named in
     let new_is : new ≡ with_attr pairs (string_bytes e.0) text = is ∙ ap (λ (t : List ℕ). with_attr pairs t text) tag_is in (
       attr_last done e more pairs text sorted so_far.0 read.2 ∙ ap attrs_members (sym new_is),
-      subst (AllByRecursion (λ (p : List ℕ × List ℕ). IsAttrName p.0)) (sym new_is) (named_more pairs (string_bytes e.0) text (subst IsAttrName named read.1) so_far.1),
+      subst (AllByRecursion IsAttr) (sym new_is) (attrs_more pairs (string_bytes e.0) text (subst IsAttrName named read.1.0, read.1.1) so_far.1),
     )
 
 -- the members before an item of a loop, the item, and those after it
@@ -87,14 +87,42 @@ attrs_same (p ∷ pairs) (q ∷ others) same =
     rw (left, right, tail) refl
 
 -- a member that is an attribute has a name of the form and a text
-pub attr_here : (done : List Entry) (e : Entry) (more : List Entry) (pairs : Pairs) → members_view (done ++ e ∷ more) ≡ attrs_members pairs → AllByRecursion (λ p. IsAttrName p.0) pairs
+pub attr_here : (done : List Entry) (e : Entry) (more : List Entry) (pairs : Pairs) → members_view (done ++ e ∷ more) ≡ attrs_members pairs → AllByRecursion IsAttr pairs
     → (text : List ℕ) × IsAttrName (string_bytes e.0) × (view e.1 ≡ string text)
 attr_here [] e more [] same named = absurd (cc)
 attr_here [] e more (p ∷ pairs) same named =
     let name : p.0 ≡ string_bytes e.0 = cc in
     let is : view e.1 ≡ string p.1 = cc in
-    (p.1, subst IsAttrName name named.0, is)
+    (p.1, subst IsAttrName name named.0.0, is)
 attr_here (d ∷ done) e more [] same named = absurd (cc)
 attr_here (d ∷ done) e more (p ∷ pairs) same named =
     let rest : members_view (done ++ e ∷ more) ≡ attrs_members pairs = cc in
     attr_here done e more pairs rest named.1
+
+-- ---- the order of names
+
+names_after : (name : List ℕ) (key : String Global) (es : List Entry) (pairs : Pairs) → name ≡ string_bytes key → members_view es ≡ attrs_members pairs → AllByRecursion (λ y. string_cmp key y ≡ Less) (keys_of es)
+    → AllByRecursion (λ y. slice_cmp nat_cmp name y ≡ Less) (keys_of pairs)
+names_after name key [] [] named same h = tt
+names_after name key [] (p ∷ pairs) named same h = absurd (cc)
+names_after name key (e ∷ es) [] named same h = absurd (cc)
+names_after name key (e ∷ es) (p ∷ pairs) named same h =
+    let first : p.0 ≡ string_bytes e.0 = cc in
+    let rest : members_view es ≡ attrs_members pairs = cc in
+    (rw (named, first) h.0, names_after name key es pairs named rest h.1)
+
+-- the names of attributes rise as the keys of the members do
+pub names_rise : (es : List Entry) (pairs : Pairs) → members_view es ≡ attrs_members pairs → IsStrictlySortedBy string_cmp (keys_of es) → IsStrictlySortedBy (slice_cmp nat_cmp) (keys_of pairs)
+unfolding IsStrictlySortedBy
+names_rise [] [] same h = tt
+names_rise [] (p ∷ pairs) same h = absurd (cc)
+names_rise (e ∷ es) [] same h = absurd (cc)
+names_rise (e ∷ es) (p ∷ pairs) same h =
+    let first : p.0 ≡ string_bytes e.0 = cc in
+    let rest : members_view es ≡ attrs_members pairs = cc in
+    (names_after p.0 e.0 es pairs first rest h.0, names_rise es pairs rest h.1)
+
+-- no attributes
+pub no_attrs : AreAttrs []
+unfolding IsStrictlySortedBy
+no_attrs = record { few = omega arith; each = tt; rise = tt }

@@ -11,7 +11,8 @@ use Rattle.serde_json.specs.Data.{Data, null, boolean, number, string, array, ob
 use Rattle.serde_json.specs.Find.{as_array}
 use Rattle.serde_json.specs.View.{view, items_view, items_of}
 use Rattle.iris_base.specs.Forms.{IsKind}
-use Rattle.iris_json.specs.CityLine.{texts, AreKinds}
+use Rattle.iris_json.specs.CityForm.{AreKinds}
+use Rattle.iris_json.specs.CityLine.{texts}
 
 -- a list at a key is an array there
 pub array_there : (o : Option Data) (items : Items) → Some items ≡ option_and_then as_array o → o ≡ Some (array items)

@@ -1,5 +1,6 @@
 pub mod AttrReading
 pub mod CityReading
+pub mod CityNodes
 pub mod KindReading
 pub mod LabelReading
 pub mod LineReading

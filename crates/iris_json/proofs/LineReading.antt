@@ -1,11 +1,10 @@
 -- From an object to the bytes that are its text.
-use Rattle.std.proofs.Common.{◌≡◌, ℕ, List, [], ◌∷◌, codes, Bool, true, false, Option, Some, None, Result, Ok, Err, IfOk, refl, ap, sym, ◌∙◌, subst}
-use Rattle.serde_json.specs.Data.{Data, null, boolean, number, string, array, object, Members, no_members, member}
+use Rattle.std.proofs.Common.{◌≡◌, ℕ, List, Some, Result, Ok, Err, IfOk, ◌∙◌, subst}
+use Rattle.serde_json.specs.Data.{Data, null, boolean, number, string, array, object, Members}
 use Rattle.serde_json.specs.Find.{as_object}
 use Rattle.iris_json.specs.declared.line.Line.{Line}
-use Rattle.iris_json.specs.declared.line.Line.TheVariants.{Query, Settle}
 use Rattle.iris_json.specs.declared.line.LineError.{LineError}
-use Rattle.iris_json.specs.Lines.{IsJson, IsLine, ReadsLine, GivesLine, has_only}
+use Rattle.iris_json.specs.Lines.{IsJson, IsLine, ReadsLine, GivesLine}
 
 -- a text has one value
 pub json_unique : (bytes : List ℕ) (d e : Data) → IsJson bytes d → IsJson bytes e → d ≡ e

@@ -1,5 +1,5 @@
 -- The members of an object, and the keys that it may have.
-use Rattle.std.proofs.Common.{◌≡◌, ℕ, List, [], ◌∷◌, ◌&&◌, ◌||◌, Bool, refl, ap, map, String, Global, Bor, bytes_eq, string_bytes}
+use Rattle.std.proofs.Common.{◌≡◌, ℕ, List, [], ◌∷◌, ◌||◌, refl, ap, map, String, Global, Bor, bytes_eq, string_bytes}
 use Rattle.std.specs.List.{list_any, list_all}
 use Rattle.serde_json.specs.declared.value.Value.{Value}
 use Rattle.serde_json.specs.View.{members_view}

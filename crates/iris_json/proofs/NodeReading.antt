@@ -1,6 +1,6 @@
 -- From a JSON value to a node: its children are read one after another, and put in the order of labels.
-use Rattle.std.proofs.Common.{◌≡◌, ℕ, zero, suc, ◌+◌, ◌-◌, ◌<◌, ◌≤◌, Bool, true, false, true≢false, ◌||◌, List, [], ◌∷◌, ◌++◌, length, take, drop, get_or, map, Option, Some, None, IsSome, if◌then◌else◌, refl, ap, sym, ◌∙◌, subst, arith, append_assoc, append-nil, ◌≢◌, ◌↔◌, Result, Ok, Err, IsErrOf}
-use Rattle.std.specs.List.{list_any, AllByRecursion, IsDistinct, find}
+use Rattle.std.proofs.Common.{◌≡◌, ℕ, zero, suc, ◌+◌, ◌-◌, ◌<◌, ◌≤◌, Bool, true, false, ◌||◌, List, [], ◌∷◌, ◌++◌, length, take, drop, get_or, Option, Some, None, IsSome, if◌then◌else◌, refl, ap, sym, ◌∙◌, subst, arith, append_assoc, append-nil, ◌≢◌, ◌↔◌, Ok, Err, IsErrOf}
+use Rattle.std.specs.List.{list_any, AllByRecursion, IsDistinct}
 use Rattle.std.specs.Ordering.{is_lt}
 use Rattle.std.proofs.lemmas.List.{take_more, take_all}
 use Rattle.std.proofs.lemmas.Bool.{or_from, or_parts}
@@ -15,7 +15,7 @@ use Rattle.iris_base.specs.declared.name.Label.{Label}
 use Rattle.iris_base.specs.NameOrder.{label_eq, label_cmp, labels_equiv}
 use Rattle.iris_tree.specs.declared.local.Local.{Local}
 use Rattle.iris_tree.specs.NodeCode.{size_of, sizes_of, nodes_of-list_of}
-use Rattle.iris_tree.specs.Universe.{Node, node, Nodes, no_nodes, nodes, nodes_of, list_of, label_of, local_of, children_of, labels_of, child_of, insert_node, with_child}
+use Rattle.iris_tree.specs.Universe.{Node, node, Nodes, no_nodes, nodes_of, list_of, label_of, local_of, children_of, labels_of, child_of, insert_node, with_child}
 use Rattle.iris_tree.specs.declared.tree.InsertError.{InsertError}
 use Rattle.iris_tree.specs.declared.tree.InsertError.TheVariants.{Twin, Memory}
 use Rattle.iris_json.specs.Errors.{insert_error}
@@ -24,7 +24,7 @@ use Rattle.iris_json.specs.CityLine.{Gives, OwnAt, NodesAt, AreSiblings, IsNode,
 
 -- ---- a node by its parts
 
-list_of-nodes_of : (ns : List Node) → list_of (nodes_of ns) ≡ ns
+pub list_of-nodes_of : (ns : List Node) → list_of (nodes_of ns) ≡ ns
 list_of-nodes_of [] = refl
 list_of-nodes_of (n ∷ ns) = ap (λ (ms : List Node). n ∷ ms) (list_of-nodes_of ns)
 

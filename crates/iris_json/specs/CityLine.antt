@@ -1,12 +1,11 @@
 -- The city line, as a relation between bytes and what a city holds.
-use Rattle.std.specs.Prelude.{◌≡◌, ◌≢◌, ◌⊎◌, ℕ, suc, ◌<◌, ◌≤◌, false, true, Contains, List, [], ◌∷◌, map, length, codes, Option, Some, None, Result, Ok, Err}
-use Rattle.std.specs.List.{AllByRecursion, IsDistinct}
-use Rattle.std.specs.Str.{bytes_eq}
-use Rattle.serde_json.specs.Data.{Data, string, array, object, Items, no_items, item}
+use Rattle.std.specs.Prelude.{◌≡◌, ◌⊎◌, ℕ, suc, ◌≤◌, true, Contains, List, [], ◌∷◌, map, length, codes, Some, None, Result, Ok, Err}
+use Rattle.std.specs.List.{IsDistinct}
+use Rattle.serde_json.specs.Data.{Data, string, array, Items, no_items, item}
 use Rattle.serde_json.specs.Find.{get}
 use Rattle.serde_json.specs.View.{items_of}
 use Rattle.iris_base.specs.declared.name.Label.{Label}
-use Rattle.iris_base.specs.Forms.{IsKind, IsId, IsTag, IsAgentId}
+use Rattle.iris_base.specs.Forms.{IsId, IsAgentId}
 use Rattle.iris_base.specs.NameOrder.{label_eq}
 use Rattle.iris_base.specs.NameText.{name_text}
 use Rattle.iris_tree.specs.declared.local.Local.{Local}
@@ -18,17 +17,11 @@ use Rattle.iris_json.specs.declared.city.City.{City}
 use Rattle.iris_json.specs.declared.city.CityError.{CityError}
 use Rattle.iris_json.specs.declared.city.CityError.TheVariants.{BadCity, Memory}
 use Rattle.iris_json.specs.Lines.{IsJson, has_only}
+use Rattle.iris_json.specs.CityForm.{AreKinds, AreAttrs}
 
 -- a list of texts
 abbrev pub texts : List (List ℕ) → Data
 texts ts = array (items_of (map string ts))
-
--- 1 to 16 different kinds
-pub record AreKinds (kinds : List (List ℕ)) : Type 0 where
-  pub some : 0 < length kinds
-  pub few : length kinds ≤ 16
-  pub each : AllByRecursion IsKind kinds
-  pub differ : IsDistinct bytes_eq kinds
 
 -- the kinds at the key `kinds`
 abbrev pub KindsAt : Data → List (List ℕ) → Type 0
@@ -37,15 +30,6 @@ KindsAt d kinds = (get (codes "kinds") d ≡ Some (texts kinds)) × AreKinds kin
 -- the one agent at the key `agents`
 abbrev pub AgentAt : Data → List ℕ → Type 0
 AgentAt d agent = (get (codes "agents") d ≡ Some (texts (agent ∷ []))) × IsAgentId agent
-
--- the name of an attribute: of its form, and not `id`
-abbrev pub IsAttrName : List ℕ → Type 0
-IsAttrName name = IsTag name × (bytes_eq name (codes "id") ≡ false)
-
--- at most 64 attributes
-pub record AreAttrs (pairs : Pairs) : Type 0 where
-  pub few : length pairs ≤ 64
-  pub named : AllByRecursion (λ p. IsAttrName p.0) pairs
 
 -- the attributes at the key `attrs`; absent means none
 abbrev pub AttrsAt : Data → Pairs → Type 0

@@ -1,5 +1,11 @@
 //! A city, and why none was read.
-ghost use Rattle.std.specs.Prelude.{◌≡◌, length};
+ghost use Rattle.std.specs.Prelude.{◌≡◌, ◌≤◌, [], ◌∷◌, length, map};
+ghost use Rattle.std.specs.List.{AllByRecursion};
+ghost use Rattle.std.proofs.Props.{props};
+ghost use Rattle.iris_base.specs.Forms.{IsAgentId};
+ghost use Rattle.iris_tree.specs.NodeCode.{size_of};
+ghost use Rattle.iris_tree.specs.Universe.{label_of};
+ghost use Rattle.iris_json.specs.CityForm.{AreKinds, IsCityNode, AreKinds-prop, IsCityNode-prop};
 
 use crate::keys::ValueError;
 use iris_tree::{AgentId, Kind, Memory, Name, Sequence, TextError, Tree};
@@ -115,5 +121,10 @@ pub struct City {
     pub place: Sequence<(Name, AgentId)>,
     /// The top node with all below it.
     pub tree: Tree,
+    ghost kinds_fit: { AreKinds kinds } by { AreKinds-prop kinds },
     ghost one_agent: { length agents ≡ 1 },
+    ghost agents_fit: { AllByRecursion IsAgentId agents } by { Prim.hlevel props },
+    ghost placed: { place ≡ map (λ agent. (label_of tree ∷ [], agent)) agents } by { Prim.hlevel props },
+    ghost nodes_fit: { IsCityNode kinds 16 tree } by { IsCityNode-prop kinds 16 tree },
+    ghost few_nodes: { size_of tree ≤ 20000 },
 }

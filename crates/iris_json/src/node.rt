@@ -8,7 +8,8 @@ ghost use Rattle.iris_tree.specs.Attrs.{Pairs};
 ghost use Rattle.iris_tree.specs.LocalText.{attrs_members};
 ghost use Rattle.iris_tree.specs.NodeCode.{size_of};
 ghost use Rattle.iris_tree.specs.Universe.{Node};
-ghost use Rattle.iris_json.specs.CityLine.{IsAttrName, AreAttrs, AttrsAt, LocalAt, NodesAt, LabelAt, OwnAt, IsNode, Gives};
+ghost use Rattle.iris_json.specs.CityForm.{IsAttrName, IsAttr, AreAttrs};
+ghost use Rattle.iris_json.specs.CityLine.{AttrsAt, LocalAt, NodesAt, LabelAt, OwnAt, IsNode, Gives};
 
 use crate::city::{CityError, CityWhy};
 use crate::keys::{Members, has_only, text_at, value_at};
@@ -74,7 +75,7 @@ fn read_label(kinds: &[Kind], members: &Members) -> Result<Label, CityError>
 
 // The name and the value of an attribute.
 fn read_attr(alloc: Global, name: &str, value: &Value) -> Result<(Tag, Text), CityError>
-    ensures found { IfOk result (λ attr. (attr.0 ≡ name.now) × IsAttrName name.now × (view value.now ≡ string attr.1)) }
+    ensures found { IfOk result (λ attr. (attr.0 ≡ name.now) × IsAttr (name.now, attr.1) × (view value.now ≡ string attr.1)) }
     ensures only { (text : List ℕ) → IsAttrName name.now → view value.now ≡ string text → Gives result (name.now, text) }
 {
     let Some(text) = value.as_str() else {
@@ -86,7 +87,8 @@ fn read_attr(alloc: Global, name: &str, value: &Value) -> Result<(Tag, Text), Ci
     if tag.as_str() == "id" {
         return Err(SHAPE);
     }
-    Ok((tag, Text::new(alloc, text)?))
+    let text = String::from_str(alloc, text)?;
+    Ok((tag, Text::from_string(text)))
 }
 
 // The attributes that these members are.
@@ -106,6 +108,7 @@ fn read_members(alloc: Global, members: &Members) -> Result<Attrs, CityError>
 }
 
 // The attributes at the key `attrs`.
+#[tactic(auto, using(crate::proofs::AttrReading::no_attrs))]
 fn read_attrs(alloc: Global, members: &Members) -> Result<Attrs, CityError>
     ensures found { IfOk result (λ attrs. AttrsAt (object (members_view members.now.entries)) attrs) }
     ensures only { (pairs : Pairs) → AttrsAt (object (members_view members.now.entries)) pairs → Gives result pairs }

@@ -1,8 +1,11 @@
-use Rattle.std.proofs.Common.{ap, ◌∙◌}
+use Rattle.std.proofs.Common.{ℕ, List, [], ◌∷◌, map, refl, ap, sym, ◌∙◌, subst}
+use Rattle.std.specs.List.{AllByRecursion}
 use Rattle.std.proofs.lemmas.Result.{err_from_is_err_and}
 use Rattle.serde_json.specs.Data.{object}
 use Rattle.serde_json.specs.View.{members_view}
 use Rattle.iris_tree.specs.Universe.{label_of}
+use Rattle.iris_base.specs.Forms.{IsAgentId}
+use Rattle.iris_json.proofs.CityNodes.{tree_fits}
 use Rattle.iris_json.proofs.CityReading.{city_refused, place_read, tree_read, one_agent, one_place}
 use Rattle.iris_json.proofs.city_line.city_of.Goals as goal
 
@@ -35,3 +38,23 @@ returns-clause-only c kinds agent tree is =
         one_place _ _ _ _ _ _ agent c.in_ok-push-2.ensures.ok c.new-place.ensures c.in_ok-top.ensures.found.0 c.label.ensures same_agent,
       ),
     )
+
+pub invariant_of-result-clause-kinds_fit : goal.invariant_of-result-clause-kinds_fit
+invariant_of-result-clause-kinds_fit c = c.in_ok-kinds.ensures.found.1
+
+pub invariant_of-result-clause-agents_fit : goal.invariant_of-result-clause-agents_fit
+invariant_of-result-clause-agents_fit c =
+    let one = one_agent _ _ _ _ c.in_ok-push.ensures.ok c.new-agents.ensures refl in
+    subst (AllByRecursion IsAgentId) (sym one) (c.in_ok-agent.ensures.found.1, tt)
+
+pub invariant_of-result-clause-placed : goal.invariant_of-result-clause-placed
+invariant_of-result-clause-placed c =
+    let one = one_agent _ _ _ _ c.in_ok-push.ensures.ok c.new-agents.ensures refl in
+    let place = one_place _ _ _ _ _ _ _ c.in_ok-push-2.ensures.ok c.new-place.ensures c.in_ok-top.ensures.found.0 c.label.ensures refl in
+    place ∙ sym (ap (map (λ (agent : List ℕ). (label_of c.in_ok-tree.tree ∷ [], agent))) one)
+
+pub invariant_of-result-clause-nodes_fit : goal.invariant_of-result-clause-nodes_fit
+invariant_of-result-clause-nodes_fit c = tree_fits _ _ (object (members_view c.args.members.now.entries)) _ c.as_slice.ensures c.in_ok-tree.ensures.found
+
+pub invariant_of-result-clause-few_nodes : goal.invariant_of-result-clause-few_nodes
+invariant_of-result-clause-few_nodes c = c.in_ok-tree.ensures.found.3

@@ -1,4 +1,4 @@
-use Rattle.std.proofs.Common.{◌≡◌, ℕ, List, arith, sym, ◌∙◌, ap, true≢false, bytes_eq}
+use Rattle.std.proofs.Common.{ℕ, List, arith, sym, ◌∙◌, ap, true≢false, bytes_eq}
 use Rattle.std.specs.List.{list_any}
 use Rattle.std.proofs.lemmas.Result.{err_from_is_err_and}
 use Rattle.iris_json.proofs.AttrReading.{same_error}

@@ -1,4 +1,4 @@
-use Rattle.std.proofs.Common.{[], arith, ap, sym, ◌∙◌, subst, Option, None}
+use Rattle.std.proofs.Common.{[], arith, ap, ◌∙◌}
 use Rattle.std.proofs.lemmas.Result.{err_from_is_err_and}
 use Rattle.iris_tree.specs.NodeCode.{size_of}
 use Rattle.iris_tree.specs.Universe.{Node, label_of, local_of, children_of, child_of}

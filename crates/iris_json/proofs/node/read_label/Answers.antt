@@ -1,4 +1,3 @@
-use Rattle.std.proofs.Common.{sym, ◌∙◌}
 use Rattle.iris_json.proofs.LabelReading.{label_found, label_only, label_missing}
 use Rattle.iris_json.proofs.node.read_label.Goals as goal
 

@@ -1,0 +1,71 @@
+-- What a city keeps to, beside any text of it: its kinds, and its nodes.
+use Rattle.std.specs.Prelude.{◌≡◌, ℕ, zero, suc, ◌<◌, ◌≤◌, false, true, ⊤, List, length, codes}
+use Rattle.std.specs.List.{AllByRecursion, IsDistinct, list_any}
+use Rattle.std.specs.List.Sorted.{IsStrictlySortedBy}
+use Rattle.std.specs.Map.{keys_of}
+use Rattle.std.specs.Ordering.{nat_cmp}
+use Rattle.std.specs.Cmp.Lexicographic.{slice_cmp}
+use Rattle.std.specs.Str.{bytes_eq, IsUtf8}
+use Rattle.std.proofs.Props.{props}
+use Rattle.iris_base.specs.declared.name.Label.{Label}
+use Rattle.iris_base.specs.Forms.{IsKind, IsId, IsTag}
+use Rattle.iris_tree.specs.declared.local.Local.{Local}
+use Rattle.iris_tree.specs.Attrs.{Pairs}
+use Rattle.iris_tree.specs.LocalText.{local_text}
+use Rattle.iris_tree.specs.Universe.{Node, node, Nodes, no_nodes, nodes, list_of}
+
+-- 1 to 16 different kinds
+pub record AreKinds (kinds : List (List ℕ)) : Type 0 where
+  pub some : 0 < length kinds
+  pub few : length kinds ≤ 16
+  pub each : AllByRecursion IsKind kinds
+  pub differ : IsDistinct bytes_eq kinds
+
+-- the name of an attribute: of its form, and not `id`
+abbrev pub IsAttrName : List ℕ → Type 0
+IsAttrName name = IsTag name × (bytes_eq name (codes "id") ≡ false)
+
+-- an attribute: its name and its text
+abbrev pub IsAttr : List ℕ × List ℕ → Type 0
+IsAttr pair = IsAttrName pair.0 × IsUtf8 pair.1
+
+-- at most 64 attributes, in the order of their names
+pub record AreAttrs (pairs : Pairs) : Type 0 where
+  pub few : length pairs ≤ 64
+  pub each : AllByRecursion IsAttr pairs
+  pub rise : IsStrictlySortedBy (slice_cmp nat_cmp) (keys_of pairs)
+
+-- what a node of a city is called and holds itself: it is of one of the kinds, has no plain elements, and its canonical text is short
+pub record IsCityOwn (kinds : List (List ℕ)) (label : Label) (local : Local) : Type 0 where
+  pub kind : list_any (bytes_eq label.kind) kinds ≡ true
+  pub id : IsId label.id
+  pub attrs : AreAttrs local.attrs
+  pub no_plain : length local.plain ≡ 0
+  pub short : length (local_text local) ≤ 1024
+
+-- a node of a city, with at most so many levels of nodes and at most 2,000 children each
+abbrev mutual
+  pub IsCityNode : List (List ℕ) → ℕ → Node → Type 0
+  IsCityNode kinds zero n = ⊥
+  IsCityNode kinds (suc levels) (node label local below) = IsCityOwn kinds label local × (length (list_of below) ≤ 2000) × AreCityNodes kinds levels below
+
+  pub AreCityNodes : List (List ℕ) → ℕ → Nodes → Type 0
+  AreCityNodes kinds levels no_nodes = ⊤
+  AreCityNodes kinds levels (nodes n ns) = IsCityNode kinds levels n × AreCityNodes kinds levels ns
+
+-- ---- each of these facts has one proof, since a city keeps them
+
+pub AreKinds-prop : (kinds : List (List ℕ)) → IsProp (AreKinds kinds)
+AreKinds-prop kinds = hlevel props
+
+pub IsCityOwn-prop : (kinds : List (List ℕ)) (label : Label) (local : Local) → IsProp (IsCityOwn kinds label local)
+IsCityOwn-prop kinds label local = hlevel props
+
+mutual
+  pub IsCityNode-prop : (kinds : List (List ℕ)) (levels : ℕ) (n : Node) → IsProp (IsCityNode kinds levels n)
+  IsCityNode-prop kinds zero n = hlevel props
+  IsCityNode-prop kinds (suc levels) (node label local below) = hlevel (IsCityOwn-prop kinds label local, AreCityNodes-prop kinds levels below, props)
+
+  AreCityNodes-prop : (kinds : List (List ℕ)) (levels : ℕ) (ns : Nodes) → IsProp (AreCityNodes kinds levels ns)
+  AreCityNodes-prop kinds levels no_nodes = hlevel props
+  AreCityNodes-prop kinds levels (nodes n ns) = hlevel (IsCityNode-prop kinds levels n, AreCityNodes-prop kinds levels ns, props)
