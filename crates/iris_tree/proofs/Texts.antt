@@ -13,6 +13,8 @@ use Rattle.iris_tree.specs.declared.plain.Plain.{Plain}
 use Rattle.iris_tree.specs.declared.plain.Plain.TheViews.{out-Plain}
 use Rattle.iris_tree.specs.declared.plain.Plain.TheFolds.{fold_out-Plain}
 use Rattle.iris_tree.specs.Attrs.{Pairs}
+use Rattle.iris_tree.specs.declared.change.Change.{Change}
+use Rattle.iris_tree.specs.Changes.{change_data, changes_data}
 use Rattle.iris_tree.specs.LocalText.{attrs_members, attrs_data, plain_step, plain_data, local_data, value_tokens, pair_tokens}
 
 -- the text of what is written for a value
@@ -45,17 +47,26 @@ unfolding value_tokens
 items_written [] = refl
 items_written (d ∷ ds) = rw (items_written ds) (simp append_assoc)
 
+-- values one after another, each of an element
+abbrev pub values_tokens : {X : Type 0} → (X → Data) → List X → List Token
+values_tokens f xs = joined (map f xs)
+
+-- one more
+pub values_more : {X : Type 0} (f : X → Data) (xs : List X) (i : ℕ) (x : X) → i < length xs → x ≡ get_or xs i x
+    → values_tokens f (take (i + 1) xs) ≡ values_tokens f (take i xs) ++ value_tokens (f x)
+values_more {X} f xs i x within is =
+    ap (values_tokens f) (take_more xs i x within ∙ ap (λ (y : X). take i xs ++ y ∷ []) (sym is))
+    ∙ rw (map-append f (take i xs) (x ∷ []), joined-append (map f (take i xs)) (f x ∷ []), append-nil (value_tokens (f x))) refl
+
 -- ---- plain elements
 
 -- elements one after another
 abbrev pub plains_tokens : List Plain → List Token
-plains_tokens ps = joined (map plain_data ps)
+plains_tokens ps = values_tokens plain_data ps
 
 -- one more element
 pub plains_more : (ps : List Plain) (i : ℕ) (p : Plain) → i < length ps → p ≡ get_or ps i p → plains_tokens (take (i + 1) ps) ≡ plains_tokens (take i ps) ++ value_tokens (plain_data p)
-plains_more ps i p within is =
-    ap plains_tokens (take_more ps i p within ∙ ap (λ (q : Plain). take i ps ++ q ∷ []) (sym is))
-    ∙ rw (map-append plain_data (take i ps) (p ∷ []), joined-append (map plain_data (take i ps)) (plain_data p ∷ []), append-nil (value_tokens (plain_data p))) refl
+plains_more = values_more plain_data
 
 -- an array of elements, and what follows it
 array_written : (ps : List Plain) (ts : List Token) → items_tokens (items_outline (items_of (map plain_data ps))) ++ ts ≡ plains_tokens ps ++ Token.end_array ∷ ts
@@ -74,6 +85,19 @@ pub plain_written : (p : Plain) → value_tokens (plain_data p)
     ≡ Token.begin_object ∷ Token.key (codes "attrs") ∷ (value_tokens (attrs_data (out-Plain p).attrs) ++ (Token.key (codes "kids") ∷ Token.begin_array ∷ (plains_tokens (out-Plain p).kids
     ++ (Token.end_array ∷ Token.key (codes "tag") ∷ Token.string (out-Plain p).tag ∷ Token.key (codes "text") ∷ Token.string (out-Plain p).text ∷ Token.end_object ∷ []))))
 plain_written p = ap value_tokens (fold_out-Plain Data plain_step p) ∙ step_written (out-Plain p).tag (out-Plain p).text (out-Plain p).attrs (out-Plain p).kids
+
+-- ---- changes
+
+-- changes one after another
+abbrev pub changes_tokens : List Change → List Token
+changes_tokens cs = values_tokens change_data cs
+
+pub changes_more : (cs : List Change) (i : ℕ) (c : Change) → i < length cs → c ≡ get_or cs i c → changes_tokens (take (i + 1) cs) ≡ changes_tokens (take i cs) ++ value_tokens (change_data c)
+changes_more = values_more change_data
+
+pub changes_written : (cs : List Change) → value_tokens (changes_data cs) ≡ Token.begin_array ∷ (changes_tokens cs ++ Token.end_array ∷ [])
+unfolding value_tokens
+changes_written cs = ap (λ (ts : List Token). Token.begin_array ∷ ts) (items_written (map change_data cs))
 
 -- ---- local information
 

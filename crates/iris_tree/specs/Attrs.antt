@@ -3,7 +3,7 @@ use Rattle.std.specs.Prelude.{ℕ, List, Option, Bool, nat_eq, ◌&&◌}
 use Rattle.std.specs.Ordering.{nat_cmp}
 use Rattle.std.specs.Cmp.Lexicographic.{slice_cmp, pointwise, nat_list_eq_equiv}
 use Rattle.std.specs.Cmp.{IsEquivalence, on_equiv, and_equiv}
-use Rattle.std.specs.Map.{lookup}
+use Rattle.std.specs.Map.{lookup, remove_entry}
 use Rattle.std.specs.BTreeMap.{is_at, insert_entry}
 
 abbrev pub Pairs : Type 0
@@ -16,6 +16,10 @@ value_of pairs name = lookup (is_at (slice_cmp nat_cmp name)) pairs
 -- the attributes with that value at that name
 abbrev pub with_attr : Pairs → List ℕ → List ℕ → Pairs
 with_attr pairs name value = insert_entry (slice_cmp nat_cmp) pairs name value
+
+-- the attributes but that of that name
+abbrev pub without_attr : Pairs → List ℕ → Pairs
+without_attr pairs name = remove_entry (is_at (slice_cmp nat_cmp name)) pairs
 
 -- the same name and the same value
 abbrev pub pair_eq : List ℕ × List ℕ → List ℕ × List ℕ → Bool

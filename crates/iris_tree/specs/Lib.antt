@@ -1,4 +1,5 @@
 pub mod Attrs
+pub mod Changes
 pub mod Document
 pub mod LocalText
 pub mod Messages

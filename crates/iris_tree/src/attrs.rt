@@ -1,8 +1,8 @@
 //! Attributes of nodes and of plain elements.
-ghost use Rattle.std.specs.Prelude.{◌≡◌, ◌↔◌, [], length, IfOk, OnOk, OnErr, IsTrue, option_map};
+ghost use Rattle.std.specs.Prelude.{◌≡◌, ◌↔◌, [], length, IfOk, OnOk, OnErr, IsTrue, is_some, option_map};
 ghost use Rattle.std.specs.Cmp.Lexicographic.{pointwise, lists_equiv};
 ghost use Rattle.std.specs.Cmp.{partial_equiv_from_equiv};
-ghost use Rattle.iris_tree.specs.Attrs.{pair_eq, pair_equiv, value_of, with_attr};
+ghost use Rattle.iris_tree.specs.Attrs.{pair_eq, pair_equiv, value_of, with_attr, without_attr};
 
 use iris_base::{Mem, Tag, Text};
 use std::alloc::Global;
@@ -74,6 +74,14 @@ impl Attrs {
     {
         self.map.insert(name, value)?;
         Ok(())
+    }
+
+    /// Takes the attribute of that name away, and says whether there was one. It takes no memory.
+    pub fn remove(&mut self, name: &Tag) -> bool
+        ensures was { result ≡ is_some (value_of self.old name.now) }
+        ensures attrs { self.new ≡ without_attr self.old name.now }
+    {
+        self.map.remove(name).is_some()
     }
 
     /// A copy, by the same allocator.

@@ -2,6 +2,7 @@
 #![tactic(auto)]
 
 mod attrs;
+mod change;
 mod count;
 mod counter;
 mod json_text;
@@ -13,6 +14,8 @@ mod tree;
 mod write;
 
 pub use attrs::Attrs;
+pub use change::{Change, ChangeError};
+pub use count::changes_len;
 pub use iris_base::{
     AgentForm, AgentId, Form, Id, IdForm, Kind, KindForm, Label, Letters, Mem, Memory, Name,
     NameError, Sequence, Short, Spelled, Tag, TagForm, Text, TextError, name_text, read_name,
@@ -21,3 +24,4 @@ pub use json_text::JsonText;
 pub use local::Local;
 pub use plain::Plain;
 pub use tree::{InsertError, Tree};
+pub use write::changes_text;

@@ -1,11 +1,14 @@
 //! Each call once, with answers from outside.
 
 use crate::attrs::Attrs;
+use crate::change::{Change, ChangeError};
+use crate::count::changes_len;
 use crate::json_text::JsonText;
 use crate::local::Local;
 use crate::plain::Plain;
 use crate::tree::{InsertError, Tree};
-use iris_base::{Id, Kind, Label, Name, Sequence, Tag, Text, TextError};
+use crate::write::changes_text;
+use iris_base::{Id, Kind, Label, Mem, Name, Sequence, Tag, Text, TextError};
 use std::alloc::Global;
 use std::str;
 use std::test::Fail;
@@ -42,6 +45,32 @@ fn noted(alloc: Global, text: &str) -> Result<Local, TextError> {
         attrs: attr(alloc, "free", "no")?,
         plain,
     })
+}
+
+fn set(alloc: Global, name: &str, value: &str) -> Result<Change, TextError> {
+    Ok(Change::Attr {
+        name: Tag::new(name)?,
+        value: Text::new(alloc, value)?,
+    })
+}
+
+fn unset(name: &str) -> Result<Change, TextError> {
+    Ok(Change::Drop {
+        name: Tag::new(name)?,
+    })
+}
+
+fn bad_change(at: usize) -> Option<ChangeError> {
+    Some(ChangeError::BadChange { at })
+}
+
+// So many letters.
+fn letters(alloc: Global, len: usize) -> Mem<String> {
+    let mut text = String::new(alloc);
+    for _i in 0..len {
+        text.push_str("x")?;
+    }
+    Ok(text)
 }
 
 // A city with two hoods, put in the wrong order.
@@ -225,7 +254,85 @@ fn prints_errors(rt: HostRuntime) -> Result<(), Fail> {
         format!(in alloc; "{twin}")?.as_str(),
         "the node has a child with this label"
     );
+    let bad = ChangeError::BadChange { at: 3 };
+    assert_eq!(rt;
+        format!(in alloc; "{bad}")?.as_str(),
+        "the change at 3 cannot be made"
+    );
     let memory = InsertError::Memory;
     assert_eq!(rt; format!(in alloc; "{memory}")?.as_str(), "out of memory");
+    Ok(())
+}
+
+#[test]
+fn changes_local(rt: HostRuntime) -> Result<(), Fail> {
+    let alloc = rt.alloc();
+    let local = noted(alloc, "x")?;
+    let changes = [
+        set(alloc, "free", "yes")?,
+        set(alloc, "color", "red")?,
+        unset("free")?,
+    ];
+    let changed = local.change(&changes)?;
+    assert_eq!(rt; changed.attrs.len(), 1);
+    assert_eq!(rt; changed.attrs.get("color"), Some("red"));
+    assert_eq!(rt; changed.plain.len(), 1);
+    assert_eq!(rt; local.attrs.get("free"), Some("no"));
+    assert_eq!(rt; local.change(&[])?.attrs.len(), 1);
+    Ok(())
+}
+
+#[test]
+fn refuses_changes(rt: HostRuntime) -> Result<(), Fail> {
+    let alloc = rt.alloc();
+    let local = noted(alloc, "x")?;
+    for name in ["id", "color"] {
+        let changes = [set(alloc, "width", "2")?, unset(name)?];
+        assert_eq!(rt; local.change(&changes).err(), bad_change(1));
+    }
+    for value in ["1", "no"] {
+        let changes = [set(alloc, "id", value)?, unset("id")?];
+        assert_eq!(rt; local.change(&changes).err(), bad_change(0));
+    }
+    Ok(())
+}
+
+#[test]
+fn refuses_too_many_attributes(rt: HostRuntime) -> Result<(), Fail> {
+    let alloc = rt.alloc();
+    let mut changes = Vec::new(alloc);
+    for i in 0..65 {
+        changes.push(set(alloc, &format!(in alloc; "a{i}")?, "")?)?;
+    }
+    assert_eq!(rt; Local::new(alloc).change(&changes).err(), bad_change(64));
+    assert_eq!(rt; noted(alloc, "")?.change(&changes).err(), bad_change(63));
+    Ok(())
+}
+
+#[test]
+fn refuses_too_long_local(rt: HostRuntime) -> Result<(), Fail> {
+    let alloc = rt.alloc();
+    let empty = Local::new(alloc);
+    for (name, most) in [("a", 995), ("ab", 994)] {
+        let fits = set(alloc, name, &letters(alloc, most)?)?;
+        assert_eq!(rt; empty.change(&[fits])?.text_len(), 1024);
+        let longer = set(alloc, name, &letters(alloc, most + 1)?)?;
+        assert_eq!(rt; empty.change(&[longer]).err(), bad_change(0));
+    }
+    Ok(())
+}
+
+#[test]
+fn changes_texts(rt: HostRuntime) -> Result<(), Fail> {
+    let alloc = rt.alloc();
+    let changes = [set(alloc, "free", "\"no\"")?, unset("color")?.copy()?];
+    let text = changes_text(alloc, &changes)?;
+    assert_eq!(rt;
+        str::from_utf8(&text)?,
+        "[[\"attr\",\"free\",\"\\\"no\\\"\"],[\"drop\",\"color\"]]"
+    );
+    assert_eq!(rt; changes_len(&changes), text.len() as u64);
+    assert_eq!(rt; str::from_utf8(&changes_text(alloc, &[])?)?, "[]");
+    assert_eq!(rt; changes_len(&[]), 2);
     Ok(())
 }

@@ -1,12 +1,15 @@
-//! Local information as JSON.
+//! Local information and changes as JSON.
 ghost use Rattle.std.specs.Prelude.{◌≡◌, ◌++◌, flat_map, OnOk, IfOk};
+ghost use Rattle.iris_tree.specs.Changes.{change_data, changes_data, changes_text};
 ghost use Rattle.iris_tree.specs.LocalText.{attrs_data, plain_data, local_data, local_text, value_tokens, pair_tokens};
 
 use crate::attrs::Attrs;
+use crate::change::Change;
 use crate::json_text::JsonText;
 use crate::local::Local;
 use crate::plain::Plain;
 use iris_base::Mem;
+use std::alloc::Global;
 
 impl Attrs {
     /// Writes an object with a string for each attribute, in the order of the bytes of the names.
@@ -82,4 +85,48 @@ impl Local {
         self.write(&mut out)?;
         Ok(out.into_bytes())
     }
+}
+
+impl Change {
+    #[tactic(auto, using(std::proofs::lemmas::List::append_assoc), unfolding(crate::specs::LocalText::value_tokens))]
+    fn write(&self, out: &mut JsonText) -> Mem<()>
+        ensures { OnOk result (out.new ≡ out.old ++ value_tokens (change_data self.now)) }
+    {
+        out.begin_array()?;
+        match self {
+            Change::Attr { name, value } => {
+                out.string("attr")?;
+                out.string(name.as_str())?;
+                out.string(value.as_str())?;
+            }
+            Change::Drop { name } => {
+                out.string("drop")?;
+                out.string(name.as_str())?;
+            }
+        }
+        out.end_array()?;
+        Ok(())
+    }
+}
+
+fn write_changes(changes: &[Change], out: &mut JsonText) -> Mem<()>
+    ensures { OnOk result (out.new ≡ out.old ++ value_tokens (changes_data changes.now)) }
+{
+    out.begin_array()?;
+    for change in changes {
+        change.write(out)?;
+    }
+    out.end_array()?;
+    Ok(())
+}
+
+/// The JSON text of changes, without spaces: an array that has `["attr",name,value]` for an attribute
+/// that gets a value and `["drop",name]` for one that is taken away, in the order of the changes.
+#[tactic(auto, using(crate::proofs::Texts::printed))]
+pub fn changes_text(alloc: Global, changes: &[Change]) -> Mem<Vec<u8>>
+    ensures { IfOk result (λ text. text.items ≡ changes_text changes.now) }
+{
+    let mut out = JsonText::new(alloc);
+    write_changes(changes, &mut out)?;
+    Ok(out.into_bytes())
 }

@@ -1,4 +1,4 @@
-use Rattle.std.proofs.Common.{◌≡◌, ◌∙◌, sym, ap, subst, refl, not}
+use Rattle.std.proofs.Common.{◌∙◌, sym, ap, subst, refl, not}
 use Rattle.iris_tree.specs.Universe.{Node, IsOrdered, children_of, label_of}
 use Rattle.iris_tree.proofs.Siblings.{list_of-nodes_of, labels_sorted, twin_found, no_twin, inserted_ordered, inserted_view}
 use Rattle.iris_tree.proofs.tree.Tree.insert.Goals as goal

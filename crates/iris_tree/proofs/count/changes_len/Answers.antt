@@ -1,0 +1,13 @@
+use Rattle.std.proofs.Common.{◌∙◌, ap, length, List, ℕ}
+use Rattle.iris_tree.specs.declared.counter.Counter.{Counter}
+use Rattle.iris_tree.specs.LocalText.{value_tokens}
+use Rattle.iris_tree.specs.Changes.{changes_data}
+use Rattle.iris_tree.specs.TextLen.{saturated}
+use Rattle.iris_tree.proofs.Counted.{counted_text}
+use Rattle.iris_tree.proofs.Texts.{printed}
+use Rattle.iris_tree.proofs.count.changes_len.Goals as goal
+
+pub returns : goal.returns
+returns c =
+    let whole = changes_data c.args.changes.now in
+    ap (λ (n : Counter). n.len) c.count_changes.ensures ∙ counted_text (value_tokens whole) ∙ ap (λ (text : List ℕ). saturated (length text)) (printed whole)
