@@ -1,8 +1,8 @@
 -- What stays so when nodes change: each name's parent is held, and ids are those of a city.
-use Rattle.std.proofs.Common.{◌≡◌, Bool, true, false, cond, List, [], ◌∷◌, ◌++◌, Option, Some, None, is_some, IsSome, refl, sym, ap, subst, ◌∙◌}
+use Rattle.std.proofs.Common.{◌≡◌, Bool, true, false, cond, List, [], ◌∷◌, ◌++◌, Option, Some, None, is_some, refl, sym, ap, subst, ◌∙◌}
 use Rattle.std.specs.declared.cmp.Ordering.{Ordering}
 use Rattle.std.specs.declared.cmp.Ordering.TheVariants.{Less, Equal, Greater}
-use Rattle.std.specs.Ordering.{match_ordering, is_eq, eq_by_cmp}
+use Rattle.std.specs.Ordering.{match_ordering, eq_by_cmp}
 use Rattle.std.specs.Cmp.{eq_by_cmp_equiv}
 use Rattle.std.specs.Cmp.Lexicographic.{slice_cmp}
 use Rattle.std.specs.BTreeMap.{is_at}
@@ -124,7 +124,7 @@ stands_apart : (nodes : Nodes) (name q : List Label) → AreOrdered nodes → is
 stands_apart nodes name [] ordered apart h = refl
 stands_apart nodes name (l ∷ ls) ordered apart h = held_apart nodes name (l ∷ ls) ordered apart ∙ h
 
-above_apart : (nodes : Nodes) (name n : List Label) → AreOrdered nodes → has_child nodes name ≡ false → is_held nodes n ≡ true → (o : Option (List Label × Label)) → cut n ≡ o
+pub above_apart : (nodes : Nodes) (name n : List Label) → AreOrdered nodes → has_child nodes name ≡ false → is_held nodes n ≡ true → (o : Option (List Label × Label)) → cut n ≡ o
     → stands_above nodes o ≡ true → stands_above (without_node nodes name) o ≡ true
 above_apart nodes name n ordered none held None at h = h
 above_apart nodes name n ordered none held (Some p) at h = stands_apart nodes name p.0 ordered (apart_from_child nodes name n p none held at) h

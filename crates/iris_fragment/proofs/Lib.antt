@@ -3,3 +3,4 @@ pub mod Names
 pub mod Children
 pub mod Parts
 pub mod Kept
+pub mod Cities

@@ -1,12 +1,12 @@
 -- Names: their order, and how they are cut into the name above and the last label.
-use Rattle.std.proofs.Common.{◌≡◌, Bool, true, false, List, [], ◌∷◌, ◌++◌, Option, Some, None, refl, sym, ap, ◌∙◌, subst}
+use Rattle.std.proofs.Common.{◌≡◌, true, false, List, [], ◌∷◌, ◌++◌, Option, Some, None, refl, sym, ap, ◌∙◌}
 use Rattle.std.specs.declared.cmp.Ordering.{Ordering}
 use Rattle.std.specs.declared.cmp.Ordering.TheVariants.{Less, Equal, Greater}
 use Rattle.std.specs.Ordering.{ordering_then, ordering_reverse, is_eq, is_gt}
 use Rattle.std.specs.FinMap.{IsAntisymmetric, slice_cmp-IsAntisymmetric}
 use Rattle.std.specs.Cmp.Lexicographic.{slice_cmp, pointwise}
 use Rattle.iris_base.specs.declared.name.Label.{Label}
-use Rattle.iris_base.specs.NameOrder.{label_eq, label_cmp, labels_equiv, labels_total, labels_ties, names_total, names_equiv, names_ties}
+use Rattle.iris_base.specs.NameOrder.{label_eq, label_cmp, labels_equiv, labels_total, labels_ties, names_equiv, names_ties}
 use Rattle.iris_base.specs.Under.{Under}
 use Rattle.iris_base.proofs.Labels.{label_eq-Decides}
 use Rattle.iris_fragment.specs.Held.{one_above, cut}

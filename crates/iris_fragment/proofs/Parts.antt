@@ -12,11 +12,10 @@ use Rattle.iris_base.specs.declared.name.Label.{Label}
 use Rattle.iris_base.specs.NameOrder.{label_eq, label_cmp}
 use Rattle.iris_fragment.specs.declared.held.Held.{Held}
 use Rattle.iris_fragment.specs.declared.held.Part.{Part}
-use Rattle.iris_fragment.specs.declared.held.Part.TheVariants.{Own, Copied, Bare}
 use Rattle.iris_fragment.specs.declared.piece.Full.{Full}
 use Rattle.iris_fragment.specs.declared.piece.Piece.{Piece}
 use Rattle.iris_fragment.specs.Held.{Nodes, Contents, held_at, is_held, has_place, is_listed, listed_above, listed_at}
-use Rattle.iris_fragment.specs.Changes.{replaced, with_part, with_part_in, part_in, takes, takes_any, joined, taken, taken_at, changed, changed_in}
+use Rattle.iris_fragment.specs.Changes.{replaced, with_part, with_part_in, part_in, takes_any, joined, taken, taken_at, changed, changed_in}
 use Rattle.iris_fragment.proofs.Names.{name_self, cut_last}
 use Rattle.iris_fragment.proofs.Kept.{held-replaced}
 

@@ -3,7 +3,7 @@ use Rattle.std.specs.Prelude.{ℕ, List, Option, Some, None, codes}
 use Rattle.iris_fragment.specs.declared.error.EvictError.{EvictError}
 use Rattle.iris_fragment.specs.declared.error.EvictError.TheVariants.{NotHeld, IsOwned}
 use Rattle.iris_fragment.specs.declared.status.Status.{Status}
-use Rattle.iris_fragment.specs.declared.status.Status.TheVariants.{Owned, Complete, IdComplete, Incomplete}
+use Rattle.iris_fragment.specs.declared.status.Status.TheVariants.{IdComplete}
 
 abbrev pub not_held_text : Option Status → List ℕ
 not_held_text (Some IdComplete) = codes "of the node only the ids are held"

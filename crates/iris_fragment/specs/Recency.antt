@@ -1,5 +1,5 @@
 -- A fragment with the order in which its copies were used, and with a bound on their number.
-use Rattle.std.specs.Prelude.{ℕ, Bool, true, false, not, leb, List, [], ◌∷◌, length, Option, Some, None, fold, filter, if◌then◌else◌}
+use Rattle.std.specs.Prelude.{ℕ, not, leb, List, [], ◌∷◌, length, Option, Some, None, fold, filter, if◌then◌else◌}
 use Rattle.std.specs.Cmp.Lexicographic.{pointwise}
 use Rattle.iris_base.specs.declared.name.Label.{Label}
 use Rattle.iris_base.specs.NameOrder.{label_eq}

@@ -1,5 +1,5 @@
 -- The shape of fragments.
-use Rattle.std.specs.Prelude.{◌≡◌, ◌↔◌, true, false, List, Option, Some, None, option_map}
+use Rattle.std.specs.Prelude.{◌≡◌, ◌↔◌, ℕ, true, false, List, Option, Some, IsSome, option_map}
 use Rattle.std.specs.List.Sorted.{IsStrictlySortedBy}
 use Rattle.std.specs.Map.{keys_of}
 use Rattle.std.specs.Cmp.Lexicographic.{slice_cmp}
@@ -8,7 +8,10 @@ use Rattle.iris_base.specs.NameOrder.{label_cmp}
 use Rattle.iris_tree.specs.Universe.{Node, label_of, ids_of, node_at}
 use Rattle.iris_fragment.specs.declared.held.Held.{Held}
 use Rattle.iris_fragment.specs.declared.piece.Piece.{Piece}
-use Rattle.iris_fragment.specs.Held.{Nodes, Contents, held_at, is_held, has_place}
+use Rattle.iris_fragment.specs.declared.piece.Level.TheVariants as level
+use Rattle.iris_fragment.specs.declared.status.Status.TheVariants.{Incomplete}
+use Rattle.iris_fragment.specs.Held.{Nodes, Contents, held_at, is_held, has_place, status, is_held_at}
+use Rattle.iris_fragment.specs.Usable.{piece_at}
 
 -- the name above each held name is the document's or a held one
 abbrev pub IsRooted : Nodes → Type 0
@@ -35,8 +38,17 @@ pub record IsPartOf (city : Node) (f : Contents) : Type 0 where
   pub top : f.top ≡ label_of city
   pub ids : HaveIdsOf city f.nodes
 
--- the whole shape
+-- The shape of a fragment of a city.
 pub record HasShape (city : Node) (f : Contents) : Type 0 where
+  -- each name is held once
   pub ordered : AreOrdered f.nodes
+  -- with each node the one above is held
   pub rooted : IsRooted f.nodes
+  -- what is held is of the city
   pub part : IsPartOf city f
+  -- an owned or complete node has its full part
+  pub values : (name : List Label) (now : ℕ) → is_held_at f name level.Full ≡ true → IsSome (piece_at f name level.Full now)
+  -- a node is incomplete just where it is not held, and its parent is held or is the document
+  pub incomplete : (name : List Label) → IsSome (node_at city name) → (status f name ≡ Some Incomplete) ↔ ((is_held f.nodes name ≡ false) × (has_place f.nodes name ≡ true))
+  -- no other name has a status
+  pub known : (name : List Label) → IsSome (status f name) → IsSome (node_at city name)

@@ -8,7 +8,7 @@ use Rattle.iris_fragment.specs.declared.piece.Level.{Level}
 use Rattle.iris_fragment.specs.declared.piece.Level.TheVariants as level
 use Rattle.iris_fragment.specs.declared.piece.Full.{Full}
 use Rattle.iris_fragment.specs.declared.piece.Piece.{Piece}
-use Rattle.iris_fragment.specs.Held.{Nodes, Contents, held_at}
+use Rattle.iris_fragment.specs.Held.{Contents, held_at}
 
 -- at Full: owned, or a copy with a stamp at or after the floor; at Ids: held
 abbrev pub is_usable : Part → Level → ℕ → Bool

@@ -1,14 +1,14 @@
 //! Fragments of a city's document.
-ghost use Rattle.std.specs.Prelude.{◌≡◌, ◌+◌, ◌<◌, ◌^◌, true, [], Some, IsSome, IsSomeAnd, IfOk, OnOk, OnErr};
+ghost use Rattle.std.specs.Prelude.{◌≡◌, ◌+◌, ◌<◌, ◌^◌, true, [], Some, IsSome, is_some, IsSomeAnd, IfOk, OnOk, OnErr};
 ghost use Rattle.std.specs.Prelude.{if◌then◌else◌};
 ghost use Rattle.std.specs.List.{list_any};
 ghost use Rattle.iris_base.specs.NameOrder.{label_eq};
 ghost use Rattle.iris_tree.specs.Universe.{Node};
 ghost use Rattle.iris_fragment.specs.declared.status.Status.TheVariants as standing;
-ghost use Rattle.iris_fragment.specs.Held.{status, is_held, has_place, is_listed, listed_at};
+ghost use Rattle.iris_fragment.specs.Held.{status, is_held, is_held_at, has_place, is_listed, listed_at};
 ghost use Rattle.iris_fragment.specs.Usable.{usable, piece_at, usable_pieces};
 ghost use Rattle.iris_fragment.specs.Changes.{taken, places, evicted, evict_answer, has_child, owned, renewed, released, version_at};
-ghost use Rattle.iris_fragment.specs.Shape.{AreOrdered, IsRooted, IsPieceOf, IsPartOf};
+ghost use Rattle.iris_fragment.specs.Shape.{AreOrdered, IsRooted, IsPieceOf, IsPartOf, HasShape};
 
 use crate::error::EvictError;
 use crate::held::{Held, Part};
@@ -55,6 +55,17 @@ impl Fragment {
             top,
             nodes: Nodes::new(alloc),
         }
+    }
+
+    /// The shape of a fragment of a city: of each fragment that has nodes of that city alone, with the ids
+    /// that they have there. Each call that changes a fragment keeps it so, where the pieces that it is
+    /// given are of that city. This call does nothing.
+    pub fn keeps_shape(&self)
+        ensures ordered { AreOrdered self.now.nodes }
+        ensures rooted { IsRooted self.now.nodes }
+        ensures whole { (city : Node) → IsPartOf city self.now → HasShape city self.now }
+    {
+        let _ = self.nodes.as_map();
     }
 
     /// How the node of that name stands; none where it is neither held nor listed by a held node or by the
@@ -105,7 +116,8 @@ impl Fragment {
     /// The piece of the node of that name at that level, with its full part at level Full alone; none where
     /// it is not held at that level. An owned value is stamped with the present moment `now`.
     pub fn piece(&self, name: &Name, level: Level, now: u64) -> Mem<Option<Piece>>
-        ensures { IfOk result (λ piece. piece ≡ piece_at self.now name.now level now) }
+        ensures piece { IfOk result (λ piece. piece ≡ piece_at self.now name.now level now) }
+        ensures held { IfOk result (λ piece. is_some piece ≡ is_held_at self.now name.now level) }
     {
         match self.nodes.get(name.as_slice()) {
             Some(node) => node.piece(self.alloc, name.as_slice(), level, now),
@@ -154,6 +166,7 @@ impl Fragment {
     /// Evicts a complete node: its copy is dropped, and its ids too unless a child of it is held. Answers
     /// the status that it has then. It takes no memory.
     pub fn evict(&mut self, name: &Name) -> Result<Status, EvictError>
+        ensures known { (city : Node) → IsPartOf city self.old → IfOk result (λ left. status self.new name.now ≡ Some left) }
         ensures answer { result ≡ evict_answer (status self.old name.now) (has_child self.old.nodes name.now) }
         ensures ok { OnOk result (self.new ≡ evicted self.old name.now) }
         ensures err { OnErr result (self.new ≡ self.old) }
@@ -170,6 +183,7 @@ impl Fragment {
         requires { is_held self.old.nodes name.now ≡ true }
         ensures left { result ≡ (if has_child self.old.nodes name.now then standing.IdComplete else standing.Incomplete) }
         ensures after { self.new ≡ evicted self.old name.now }
+        ensures known { (city : Node) → IsPartOf city self.old → status self.new name.now ≡ Some result }
         ensures of_city { (city : Node) → IsPartOf city self.old → IsPartOf city self.new }
     {
         if self.nodes.has_child(name.as_slice()) {

@@ -10,13 +10,21 @@ use std::alloc::Global;
 use std::test::Fail;
 
 const CITY: &str = "o";
+
 const N: &str = "o n";
+
 const N1: &str = "o n 1";
+
 const N1A: &str = "o n 1 1";
+
 const N2: &str = "o n 2";
+
 const N2A: &str = "o n 2 1";
+
 const S: &str = "o s";
+
 const T1: &str = "o s 1";
+
 const T1A: &str = "o s 1 1";
 
 fn label(kind: &str, id: &str) -> Result<Label, TextError> {
@@ -172,8 +180,16 @@ fn pieces_of_what_is_held(rt: HostRuntime) -> Result<(), Fail> {
         let full = piece.and_then(|piece| piece.full);
         assert!(rt; full.is_some_and(|full| full.version == version && full.stamp == stamp));
     }
-    assert!(rt; fragment.piece(&named(alloc, S)?, Level::Full, 500)?.is_none());
-    assert!(rt; fragment.piece(&named(alloc, T1)?, Level::Ids, 500)?.is_none());
+    assert!(rt;
+        fragment
+            .piece(&named(alloc, S)?, Level::Full, 500)?
+            .is_none()
+    );
+    assert!(rt;
+        fragment
+            .piece(&named(alloc, T1)?, Level::Ids, 500)?
+            .is_none()
+    );
     let piece = fragment.piece(&named(alloc, N1)?, Level::Ids, 500)?;
     assert!(rt; piece.is_some_and(|piece| piece.full.is_none() && piece.ids.len() == 2));
     Ok(())
@@ -185,8 +201,12 @@ fn all_usable_pieces_in_the_order_of_names(rt: HostRuntime) -> Result<(), Fail> 
     let fragment = with_copies(alloc)?;
     let mut told = String::new(alloc);
     for piece in &fragment.usable_pieces(150, 500)? {
-        told.push_str(name_text(alloc, piece.name.copy()?)?.as_str())?;
-        told.push_str(if piece.full.is_some() { " full;" } else { " ids;" })?;
+        told.push_str(name_text(alloc, &piece.name)?.as_str())?;
+        told.push_str(if piece.full.is_some() {
+            " full;"
+        } else {
+            " ids;"
+        })?;
     }
     let wanted = "city-o full;hood-n.city-o full;block-1.hood-n.city-o full;\
         space-1.block-1.hood-n.city-o full;block-2.hood-n.city-o ids;\
@@ -261,9 +281,11 @@ fn owned_renewed_and_released(rt: HostRuntime) -> Result<(), Fail> {
     assert!(rt; fragment.status(&name) == Some(Status::Complete));
     let piece = fragment.piece(&name, Level::Full, 900)?;
     let full = piece.and_then(|piece| piece.full);
-    assert!(rt; full.is_some_and(|full| {
-        (full.version, full.stamp) == (5, 700) && full.local.attrs.get("free") == Some("no")
-    }));
+    assert!(rt;
+        full.is_some_and(|full| {
+            (full.version, full.stamp) == (5, 700) && full.local.attrs.get("free") == Some("no")
+        })
+    );
     Ok(())
 }
 
@@ -273,7 +295,10 @@ fn what_an_error_prints(rt: HostRuntime) -> Result<(), Fail> {
     let known = Some(Status::Incomplete);
     let bare = Some(Status::IdComplete);
     for (error, text) in [
-        (EvictError::NotHeld { status: None }, "no such node is known"),
+        (
+            EvictError::NotHeld { status: None },
+            "no such node is known",
+        ),
         (
             EvictError::NotHeld { status: known },
             "nothing of the node is held",
@@ -294,6 +319,9 @@ fn copies_a_piece(rt: HostRuntime) -> Result<(), Fail> {
     let alloc = rt.alloc();
     let copy = full_of(alloc, N2, "no", 3, 4)?.copy()?;
     assert!(rt; copy.ids.len() == 1);
-    assert!(rt; copy.full.is_some_and(|full| full.version == 3 && full.stamp == 4));
+    assert!(rt;
+        copy.full
+            .is_some_and(|full| full.version == 3 && full.stamp == 4)
+    );
     Ok(())
 }

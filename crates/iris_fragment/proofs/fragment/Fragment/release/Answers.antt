@@ -1,4 +1,4 @@
-use Rattle.std.proofs.Common.{◌≡◌, ◌∙◌, sym, ap, rules, refl, subst, List, true, Some, option_map}
+use Rattle.std.proofs.Common.{◌≡◌, ◌∙◌, sym, rules, subst, Some, option_map}
 use Rattle.iris_fragment.specs.declared.held.Held.{Held}
 use Rattle.iris_fragment.specs.declared.held.Part.TheVariants.{Own, Bare}
 use Rattle.iris_fragment.specs.Held.{Nodes, held_at}

@@ -1,4 +1,4 @@
-use Rattle.std.proofs.Common.{◌≡◌, ◌∙◌, sym, ap, rules, refl, subst, List, true, Some}
+use Rattle.std.proofs.Common.{sym, subst}
 use Rattle.iris_fragment.specs.Held.{Nodes}
 use Rattle.iris_fragment.specs.Shape.{IsRooted, HaveIdsOf}
 use Rattle.iris_fragment.proofs.Kept.{rooted_part, ids_part, part_of_city}

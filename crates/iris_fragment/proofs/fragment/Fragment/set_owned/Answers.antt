@@ -1,4 +1,4 @@
-use Rattle.std.proofs.Common.{◌≡◌, ◌∙◌, sym, ap, rules, refl, subst, List, true, Some}
+use Rattle.std.proofs.Common.{◌≡◌, sym, rules, subst, true, Some}
 use Rattle.iris_fragment.specs.Held.{Nodes, has_place}
 use Rattle.iris_fragment.specs.Shape.{IsRooted, HaveIdsOf, ids_at}
 use Rattle.iris_fragment.proofs.Kept.{rooted_node, ids_node, part_of_city}

@@ -1,5 +1,4 @@
-use Rattle.std.proofs.Common.{◌≡◌, ◌∙◌, sym, ap, rules, refl, subst, List, true, Some}
-use Rattle.iris_tree.specs.Universe.{Node}
+use Rattle.std.proofs.Common.{◌≡◌, sym, rules, subst, List, true, Some}
 use Rattle.iris_base.specs.declared.name.Label.{Label}
 use Rattle.iris_fragment.specs.Held.{Nodes, held_at, has_place, is_held}
 use Rattle.iris_fragment.specs.Changes.{with_part, joined, part_in}

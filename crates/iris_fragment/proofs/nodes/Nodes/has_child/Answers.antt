@@ -1,10 +1,10 @@
-use Rattle.std.proofs.Common.{◌≡◌, ◌∙◌, sym, ap, refl, rules, None, false, true, drop, take, length, is_some, Option}
+use Rattle.std.proofs.Common.{◌≡◌, ◌∙◌, sym, ap, rules, None, false, true, drop, take, length, is_some, Option}
 use Rattle.std.specs.Cmp.Lexicographic.{pointwise}
 use Rattle.std.proofs.lemmas.Slice.Eq.{starts_is}
 use Rattle.iris_base.specs.NameOrder.{label_eq}
 use Rattle.iris_base.proofs.Labels.{label_eq-Decides}
 use Rattle.iris_fragment.specs.declared.held.Held.{Held}
-use Rattle.iris_fragment.specs.Held.{held_at, is_held}
+use Rattle.iris_fragment.specs.Held.{held_at}
 use Rattle.iris_fragment.proofs.Names.{name_exact}
 use Rattle.iris_fragment.proofs.Named.{held_now, no_child_behind, child_behind}
 use Rattle.iris_fragment.proofs.nodes.Nodes.has_child.Goals as goal

@@ -1,9 +1,8 @@
-use Rattle.std.proofs.Common.{◌≡◌, ◌∙◌, sym, ap, refl, rules, Option, Some, None, option_map}
+use Rattle.std.proofs.Common.{◌≡◌, ◌∙◌, ap, refl, rules, Some, None}
 use Rattle.std.specs.Map.{lookup}
 use Rattle.std.specs.BTreeMap.{is_at}
-use Rattle.iris_fragment.specs.declared.held.Held.{Held}
 use Rattle.iris_fragment.specs.declared.held.Part.{Part}
-use Rattle.iris_fragment.specs.Held.{Nodes, named, held_at}
+use Rattle.iris_fragment.specs.Held.{named}
 use Rattle.iris_fragment.proofs.Named.{Entries, against, held_now, part_put, part_not_put, sorted-named}
 use Rattle.iris_fragment.proofs.nodes.Nodes.replace.Goals as goal
 
