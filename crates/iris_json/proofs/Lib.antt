@@ -1,9 +1,11 @@
 pub mod AttrReading
 pub mod CityReading
 pub mod CityNodes
+pub mod CityWriting
 pub mod KindReading
 pub mod LabelReading
 pub mod LineReading
 pub mod MemberKeys
 pub mod NodeReading
 pub mod Written
+pub mod TextValues

@@ -4,7 +4,7 @@ use Rattle.std.proofs.lemmas.List.{take_more, append-nil}
 use Rattle.std.proofs.lemmas.Grind.{flat_map-append}
 use Rattle.json.specs.Token.{Token}
 use Rattle.json.specs.Tree.{items_tokens}
-use Rattle.serde_json.specs.Data.{Data, array}
+use Rattle.serde_json.specs.Data.{Data, string, array}
 use Rattle.serde_json.specs.View.{items_of}
 use Rattle.serde_json.specs.Written.{items_outline}
 use Rattle.iris_base.specs.declared.name.Label.{Label}
@@ -14,6 +14,9 @@ use Rattle.iris_tree.specs.Universe.{Node, node, Nodes, no_nodes, nodes, label_o
 use Rattle.iris_json.specs.declared.item.Item.{Item}
 use Rattle.iris_json.specs.declared.out.Cite.{Cite}
 use Rattle.iris_json.specs.declared.out.Out.{Out}
+use Rattle.iris_json.specs.declared.city.City.{City}
+use Rattle.iris_json.specs.CityLine.{texts}
+use Rattle.iris_json.specs.CityText.{bare, bare_items, places_data, city_data}
 use Rattle.iris_json.specs.Render.{node_data, nodes_data, item_data, items_data}
 use Rattle.iris_json.specs.Out.{cites_data, out_data}
 
@@ -38,6 +41,11 @@ pub array_written : {A : Type 0} (as_data : A → Data) (xs : List A) → value_
 unfolding value_tokens
 array_written as_data xs = ap (λ (ts : List Token). Token.begin_array ∷ ts) (sym (append-nil (items_tokens (items_outline (items_of (map as_data xs))))) ∙ items_written as_data xs [])
 
+-- a text
+pub text_written : (text : List ℕ) → value_tokens (string text) ≡ Token.string text ∷ []
+unfolding value_tokens
+text_written text = refl
+
 -- the nodes below a node, and what follows them
 nodes_written : (ns : Nodes) (ts : List Token) → items_tokens (items_outline (nodes_data ns)) ++ ts ≡ all_tokens node_data (list_of ns) ++ Token.end_array ∷ ts
 unfolding value_tokens
@@ -56,6 +64,29 @@ node_written (node label local below) =
     ++ (Token.key (codes "id") ∷ Token.string label.id ∷ Token.key (codes "kind") ∷ Token.string label.kind ∷ Token.key (codes "nodes") ∷ Token.begin_array ∷ ts)))
     (nodes_written below (Token.key (codes "plain") ∷ Token.begin_array ∷ (items_tokens (items_outline (items_of (map plain_data local.plain))) ++ Token.end_object ∷ []))
     ∙ ap (λ (ts : List Token). all_tokens node_data (list_of below) ++ (Token.end_array ∷ Token.key (codes "plain") ∷ Token.begin_array ∷ ts)) (items_written plain_data local.plain (Token.end_object ∷ [])))
+
+-- the same without plain elements
+bares_written : (ns : Nodes) (ts : List Token) → items_tokens (items_outline (bare_items (nodes_data ns))) ++ ts ≡ all_tokens (λ n. bare (node_data n)) (list_of ns) ++ Token.end_array ∷ ts
+unfolding value_tokens
+bares_written no_nodes ts = refl
+bares_written (nodes n ns) ts = rw (append_assoc (value_tokens (bare (node_data n))) (items_tokens (items_outline (bare_items (nodes_data ns)))) ts, bares_written ns ts, append_assoc (value_tokens (bare (node_data n))) (all_tokens (λ m. bare (node_data m)) (list_of ns)) (Token.end_array ∷ ts)) refl
+
+pub bare_written : (n : Node) → value_tokens (bare (node_data n))
+    ≡ Token.begin_object ∷ Token.key (codes "attrs") ∷ (value_tokens (attrs_data (local_of n).attrs)
+    ++ (Token.key (codes "id") ∷ Token.string (label_of n).id ∷ Token.key (codes "kind") ∷ Token.string (label_of n).kind ∷ Token.key (codes "nodes") ∷ Token.begin_array ∷ (all_tokens (λ m. bare (node_data m)) (children_of n)
+    ++ (Token.end_array ∷ Token.end_object ∷ []))))
+unfolding value_tokens
+bare_written (node label local below) =
+    ap (λ (ts : List Token). Token.begin_object ∷ Token.key (codes "attrs") ∷ (value_tokens (attrs_data local.attrs)
+    ++ (Token.key (codes "id") ∷ Token.string label.id ∷ Token.key (codes "kind") ∷ Token.string label.kind ∷ Token.key (codes "nodes") ∷ Token.begin_array ∷ ts)))
+    (bares_written below (Token.end_object ∷ []))
+
+-- a city
+pub city_written : (city : City) → value_tokens (city_data city)
+    ≡ Token.begin_object ∷ Token.key (codes "agents") ∷ (value_tokens (texts city.agents) ++ (Token.key (codes "kinds") ∷ (value_tokens (texts city.kinds)
+    ++ (Token.key (codes "place") ∷ (value_tokens (places_data city.place) ++ (Token.key (codes "tree") ∷ (value_tokens (bare (node_data city.tree)) ++ Token.end_object ∷ [])))))))
+unfolding value_tokens
+city_written city = refl
 
 -- an item
 pub item_written : (at : List Label) (is : Data) → value_tokens (item_data at is)

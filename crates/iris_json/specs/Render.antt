@@ -1,14 +1,15 @@
 -- Nodes and items as JSON.
-use Rattle.std.specs.Prelude.{ℕ, List, map, codes, Option, Some, None, option_map, option_and_then}
+use Rattle.std.specs.Prelude.{ℕ, List, [], ◌∷◌, ◌++◌, map, codes, Option, Some, None, option_map, option_and_then}
 use Rattle.std.specs.List.{filter_map}
+use Rattle.json.specs.Token.{Token}
 use Rattle.serde_json.specs.Data.{Data, string, array, object, Items, no_items, item, no_members, member}
 use Rattle.serde_json.specs.View.{items_of}
 use Rattle.serde_json.specs.Written.{compact_text}
 use Rattle.iris_base.specs.declared.name.Label.{Label}
 use Rattle.iris_base.specs.NameText.{name_text}
-use Rattle.iris_tree.specs.Universe.{Node, node, Nodes, no_nodes, nodes}
+use Rattle.iris_tree.specs.Universe.{Node, node, Nodes, no_nodes, nodes, label_of, local_of}
 use Rattle.iris_tree.specs.Document.{Place, Part, whole, a_node, a_plain, name_of, part_at_place}
-use Rattle.iris_tree.specs.LocalText.{attrs_data, plain_data}
+use Rattle.iris_tree.specs.LocalText.{attrs_data, plain_data, value_tokens}
 use Rattle.iris_json.specs.declared.item.Element.{Element}
 use Rattle.iris_json.specs.declared.item.Item.{Item}
 
@@ -53,3 +54,11 @@ item_at document place = option_map (item_data (name_of place)) (option_and_then
 -- the compact text of the list of the items at places
 abbrev pub rendered : Node → List Place → List ℕ
 rendered document found = compact_text (array (items_of (filter_map (item_at document) found)))
+
+-- ---- as tokens, for those who write
+
+-- what is written for a node up to the first of the nodes below it
+abbrev pub node_front : Node → List Token
+node_front n =
+    Token.begin_object ∷ Token.key (codes "attrs") ∷ (value_tokens (attrs_data (local_of n).attrs)
+    ++ (Token.key (codes "id") ∷ Token.string (label_of n).id ∷ Token.key (codes "kind") ∷ Token.string (label_of n).kind ∷ Token.key (codes "nodes") ∷ Token.begin_array ∷ []))

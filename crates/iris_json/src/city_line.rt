@@ -1,5 +1,5 @@
 //! The city line: the first line of a script.
-ghost use Rattle.std.specs.Prelude.{◌≡◌, ◌↔◌, ℕ, List, [], ◌∷◌, codes, Some, IfOk, IsTrue};
+ghost use Rattle.std.specs.Prelude.{◌≡◌, ◌↔◌, ◌<◌, ℕ, List, [], ◌∷◌, length, codes, Some, IfOk, IsTrue};
 ghost use Rattle.serde_json.specs.Data.{string, array, object, item, no_items};
 ghost use Rattle.serde_json.specs.Find.{get_member};
 ghost use Rattle.serde_json.specs.View.{view, members_view};
@@ -123,6 +123,7 @@ fn read_place(
 
 // The tree at the key `tree`.
 fn read_tree(alloc: Global, kinds: &[Kind], members: &Members) -> Result<Tree, CityError>
+    requires kinds { 0 < length kinds.now }
     ensures found { IfOk result (λ tree. TreeAt kinds.now (object (members_view members.now.entries)) tree) }
     ensures only { (tree : Node) → TreeAt kinds.now (object (members_view members.now.entries)) tree → Gives result tree }
 {

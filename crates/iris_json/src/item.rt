@@ -2,7 +2,7 @@
 ghost use Rattle.std.specs.Prelude.{◌≡◌, ◌++◌, OnOk, IfOk};
 ghost use Rattle.serde_json.specs.Written.{compact_text};
 ghost use Rattle.iris_tree.specs.LocalText.{value_tokens};
-ghost use Rattle.iris_json.specs.Render.{node_data, element_data, item_data, items_data};
+ghost use Rattle.iris_json.specs.Render.{node_data, node_front, element_data, item_data, items_data};
 
 use iris_tree::{JsonText, Mem, Name, Plain, Tree, name_text};
 use std::alloc::Global;
@@ -47,10 +47,9 @@ impl Item {
     }
 }
 
-/// Writes a node with all below it: the keys `attrs`, `id`, `kind`, `nodes`, `plain`, the nodes in the
-/// order of their labels.
-pub fn put_tree(tree: &Tree, out: &mut JsonText) -> Mem<()>
-    ensures { OnOk result (out.new ≡ out.old ++ value_tokens (node_data tree.now)) }
+/// Writes the front of a node: the keys `attrs`, `id`, `kind`, and the beginning of the list at `nodes`.
+pub fn begin_node(tree: &Tree, out: &mut JsonText) -> Mem<()>
+    ensures { OnOk result (out.new ≡ out.old ++ node_front tree.now) }
 {
     out.begin_object()?;
     out.key("attrs")?;
@@ -61,6 +60,15 @@ pub fn put_tree(tree: &Tree, out: &mut JsonText) -> Mem<()>
     out.string(tree.label().kind.as_str())?;
     out.key("nodes")?;
     out.begin_array()?;
+    Ok(())
+}
+
+/// Writes a node with all below it: the keys `attrs`, `id`, `kind`, `nodes`, `plain`, the nodes in the
+/// order of their labels.
+pub fn put_tree(tree: &Tree, out: &mut JsonText) -> Mem<()>
+    ensures { OnOk result (out.new ≡ out.old ++ value_tokens (node_data tree.now)) }
+{
+    begin_node(tree, out)?;
     for node in tree.children() {
         put_tree(node, out)?;
     }

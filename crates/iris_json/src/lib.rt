@@ -3,6 +3,7 @@
 
 mod city;
 mod city_line;
+mod city_text;
 mod item;
 mod keys;
 mod line;
@@ -15,6 +16,7 @@ mod tests_read;
 
 pub use city::{City, CityError, CityWhy};
 pub use city_line::read_city;
+pub use city_text::write_city;
 pub use item::{Element, Item, write_items, write_tree};
 pub use line::{Line, LineError, LineWhy, read_line};
 pub use out::{Cite, Out, Which, Why, write_out};

@@ -1,5 +1,5 @@
 //! The nodes of a city line.
-ghost use Rattle.std.specs.Prelude.{◌≡◌, ℕ, ◌+◌, ◌≤◌, List, IfOk, IfErr};
+ghost use Rattle.std.specs.Prelude.{◌≡◌, ℕ, ◌+◌, ◌<◌, ◌≤◌, List, length, IfOk, IfErr};
 ghost use Rattle.std.specs.List.{find};
 ghost use Rattle.std.specs.Str.{bytes_eq};
 ghost use Rattle.serde_json.specs.Data.{string, object, Items};
@@ -175,6 +175,7 @@ pub fn read_node(
     levels: u32,
     left: &mut u32,
 ) -> Result<Tree, CityError>
+    requires kinds { 0 < length kinds.now }
     ensures found { IfOk result (λ tree. IsNode kinds.now levels (view value.now) tree) }
     ensures counts { IfOk result (λ tree. left.new + size_of tree ≡ left.old) }
     ensures only { (tree : Node) → IsNode kinds.now levels (view value.now) tree → size_of tree ≤ left.old → Gives result tree }

@@ -1,10 +1,12 @@
-//! The readers, once each, and what they refuse.
+//! The readers, once each, what they refuse, and the city line written and read back.
 
 use crate::city::{CityError, CityWhy};
 use crate::city_line::read_city;
+use crate::city_text::write_city;
 use crate::line::{Line, LineError, LineWhy, read_line};
 use iris_tree::{Id, Kind, Label, Name, Tree};
 use std::alloc::{AllocError, Global};
+use std::str;
 use std::test::Fail;
 
 const BAD_LINE: LineError = LineError::BadLine {
@@ -266,6 +268,29 @@ fn limit_of_levels(rt: HostRuntime) -> Result<(), Fail> {
         }
         let line = city_with(alloc, members.as_str())?;
         assert_eq!(rt; is_city(alloc, line.as_str())?, is, "with {levels}");
+    }
+    Ok(())
+}
+
+#[test]
+fn cities_written(rt: HostRuntime) -> Result<(), Fail> {
+    let alloc = rt.alloc();
+    let table = [
+        (
+            r#"{"tree":{"id":"o","kind":"city"},"place":[["city-o","a"]],"kinds":["city"],"agents":["a"]}"#,
+            r#"{"agents":["a"],"kinds":["city"],"place":[["city-o","a"]],"tree":{"attrs":{},"id":"o","kind":"city","nodes":[]}}"#,
+        ),
+        (
+            r#"{ "kinds":["hood","city"],"agents":["1"],"place":[["city-o","1"]],"tree":{"kind":"city","id":"o","attrs":{"plain":"\u00e4\u0001","b-2":""},"nodes":[{"kind":"hood","id":"2"},{"kind":"hood","id":"10"},{"kind":"city","id":"9"}]} }"#,
+            r#"{"agents":["1"],"kinds":["hood","city"],"place":[["city-o","1"]],"tree":{"attrs":{"b-2":"","plain":"ä\u0001"},"id":"o","kind":"city","nodes":[{"attrs":{},"id":"9","kind":"city","nodes":[]},{"attrs":{},"id":"10","kind":"hood","nodes":[]},{"attrs":{},"id":"2","kind":"hood","nodes":[]}]}}"#,
+        ),
+    ];
+    for (line, written) in &table {
+        let city = read_city(alloc, line.as_bytes())?;
+        let text = write_city(alloc, &city)?;
+        assert_eq!(rt; str::from_utf8(&text)?, *written);
+        let again = read_city(alloc, &text)?;
+        assert_eq!(rt; str::from_utf8(&write_city(alloc, &again)?)?, *written);
     }
     Ok(())
 }

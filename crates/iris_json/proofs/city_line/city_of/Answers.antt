@@ -1,4 +1,4 @@
-use Rattle.std.proofs.Common.{ℕ, List, [], ◌∷◌, map, refl, ap, sym, ◌∙◌, subst}
+use Rattle.std.proofs.Common.{ℕ, List, length, arith, [], ◌∷◌, map, refl, ap, sym, ◌∙◌, subst}
 use Rattle.std.specs.List.{AllByRecursion}
 use Rattle.std.proofs.lemmas.Result.{err_from_is_err_and}
 use Rattle.serde_json.specs.Data.{object}
@@ -58,3 +58,6 @@ invariant_of-result-clause-nodes_fit c = tree_fits _ _ (object (members_view c.a
 
 pub invariant_of-result-clause-few_nodes : goal.invariant_of-result-clause-few_nodes
 invariant_of-result-clause-few_nodes c = c.in_ok-tree.ensures.found.3
+
+pub read_tree-requires : goal.read_tree-requires
+read_tree-requires c = omega (arith, c.in_ok-kinds.ensures.found.1.some, ap length c.as_slice.ensures)

@@ -18,7 +18,7 @@ loop-node-preserved t c =
 
 pub loop-element-preserved : goal.loop-element-preserved
 loop-element-preserved t c =
-    let wrote : c.write-in-loop-element.new.out ≡ c.loop-element.out ++ value_tokens (plain_data c.element-item.result) = search rules in
+    let wrote : c.write.new.out ≡ c.loop-element.out ++ value_tokens (plain_data c.element-item.result) = search rules in
     let more = tokens_more plain_data _ c.loop-element.element-index c.element-item.result c.loop-element-test.true c.element-item.is in
     rw (wrote, c.loop-element.invariant, more) (simp append_assoc)
 
@@ -26,31 +26,18 @@ pub returns : goal.returns
 returns t c =
     let nodes : take c.loop-node.node-index c.children-node-items.result.now ≡ children_of c.args.tree.now = take_all _ _ c.loop-node-test.false ∙ c.children-node-items.ensures.value in
     let plain : take c.loop-element.element-index c.as_slice-element-items.result.now ≡ (local_of c.args.tree.now).plain =
-    take_all _ _ c.loop-element-test.false ∙ c.as_slice-element-items.ensures ∙ ap (λ (l : Local). l.plain) c.local-2.ensures in
+    take_all _ _ c.loop-element-test.false ∙ c.as_slice-element-items.ensures ∙ ap (λ (l : Local). l.plain) c.local.ensures in
     rw (
       c.in_ok-end_object.ensures,
       c.in_ok-end_array-2.ensures,
       c.loop-element.invariant,
       plain,
-      c.in_ok-begin_array-2.ensures,
-      c.in_ok-key-5.ensures,
+      c.in_ok-begin_array.ensures,
+      c.in_ok-key.ensures,
       c.in_ok-end_array.ensures,
       c.loop-node.invariant,
       nodes,
-      c.in_ok-begin_array.ensures,
-      c.in_ok-key-4.ensures,
-      c.in_ok-string-2.ensures,
-      c.as_str-2.ensures.value,
-      c.label-2.ensures,
-      c.in_ok-key-3.ensures,
-      c.in_ok-string.ensures,
-      c.as_str.ensures.value,
-      c.label.ensures,
-      c.in_ok-key-2.ensures,
-      c.in_ok-write.ensures,
-      c.local.ensures,
-      c.in_ok-key.ensures,
-      c.in_ok-begin_object.ensures,
+      c.in_ok-begin_node.ensures,
       node_written c.args.tree.now,
     )
     (simp append_assoc)

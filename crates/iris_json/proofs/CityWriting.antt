@@ -1,0 +1,263 @@
+-- The written line of a city reads as that city.
+use Rattle.std.proofs.Common.{◌≡◌, ℕ, zero, suc, ◌+◌, ◌≤◌, Bool, true, false, true≢false, ◌||◌, List, [], ◌∷◌, ◌++◌, length, map, codes, max, inl, Less, Greater, nat_cmp, bytes_eq, refl, ap, sym, ◌∙◌, subst, arith, append_assoc, append-nil}
+use Rattle.std.specs.Prelude.{⊤}
+use Rattle.std.specs.Cmp.Lexicographic.{slice_cmp}
+use Rattle.std.specs.List.{AllByRecursion, IsDistinct, list_any}
+use Rattle.std.specs.List.Sorted.{IsStrictlySortedBy}
+use Rattle.std.specs.Map.{keys_of}
+use Rattle.std.specs.Ordering.{ordering_reverse, is_eq}
+use Rattle.std.specs.Str.{IsUtf8}
+use Rattle.std.proofs.Math.Nat.{max-le}
+use Rattle.std.proofs.lemmas.Map.Views.{Contains-from_any}
+use Rattle.std.proofs.lemmas.Slice.Eq.{bytes_eq-Decides}
+use Rattle.std.proofs.lemmas.Str.{IsUtf8-append, IsUtf8-from_ascii}
+use Rattle.json.proofs.Printed.Utf8.{IsUtf8-are_ascii}
+use Rattle.serde_json.specs.Data.{Data, string, object, no_members, member, depth, items_depth, members_depth}
+use Rattle.serde_json.specs.View.{items_of}
+use Rattle.serde_json.specs.Written.{compact_text}
+use Rattle.iris_base.specs.declared.letters.Letters.{Letters}
+use Rattle.iris_base.specs.declared.letters.Letters.TheVariants.{Lower, LowerOrDigit, Word, Letter, WordOrDash}
+use Rattle.iris_base.specs.declared.name.Label.{Label}
+use Rattle.iris_base.specs.Forms.{IsWord, IsKind, IsAgentId}
+use Rattle.iris_base.specs.NameOrder.{label_cmp, label_eq, labels_total, labels_ties}
+use Rattle.iris_base.specs.NameText.{label_text}
+use Rattle.iris_base.proofs.Words.{word_ascii}
+use Rattle.iris_tree.specs.declared.local.Local.{Local}
+use Rattle.iris_tree.specs.Attrs.{Pairs}
+use Rattle.iris_tree.specs.LocalText.{attrs_members}
+use Rattle.iris_tree.specs.NodeCode.{size_of}
+use Rattle.iris_tree.specs.Universe.{Node, node, Nodes, no_nodes, nodes, list_of, label_of, local_of, labels_of, insert_node, AllAfter, IsOrdered, AreOrdered}
+use Rattle.iris_json.specs.declared.city.City.{City}
+use Rattle.iris_json.specs.Lines.{IsJson}
+use Rattle.iris_json.specs.Render.{node_data, nodes_data}
+use Rattle.iris_json.specs.CityForm.{AreKinds, IsAttr, IsCityOwn, IsCityNode, AreCityNodes}
+use Rattle.iris_json.specs.CityLine.{texts, OwnAt, IsNode, AreNodes, none, more, put_in_order, in_order, IsCity, ReadsCity, IsHeldBy}
+use Rattle.iris_json.specs.CityText.{bare, bare_items, places_data, city_data}
+use Rattle.iris_json.proofs.NodeReading.{from_parts}
+use Rattle.iris_json.proofs.TextValues.{KeysAfter, IsOfTexts, AreOfTexts, HasTexts, text_is_json}
+
+-- ---- siblings whose labels rise are in order
+
+abbrev AllBefore : List Node → Node → Type 0
+AllBefore [] n = ⊤
+AllBefore (m ∷ placed) n = (label_cmp (label_of m) (label_of n) ≡ Less) × AllBefore placed n
+
+abbrev Precede : List Node → Nodes → Type 0
+Precede placed no_nodes = ⊤
+Precede placed (nodes n ns) = AllBefore placed n × Precede placed ns
+
+precede_none : (ns : Nodes) → Precede [] ns
+precede_none no_nodes = tt
+precede_none (nodes n ns) = (tt, precede_none ns)
+
+all_before_push : (placed : List Node) (m n : Node) → AllBefore placed n → label_cmp (label_of m) (label_of n) ≡ Less → AllBefore (placed ++ m ∷ []) n
+all_before_push [] m n h less = (less, tt)
+all_before_push (p ∷ placed) m n h less = (h.0, all_before_push placed m n h.1 less)
+
+precede_push : (placed : List Node) (m : Node) (ns : Nodes) → Precede placed ns → AllAfter (label_of m) ns → Precede (placed ++ m ∷ []) ns
+precede_push placed m no_nodes h after = tt
+precede_push placed m (nodes n ns) h after = (all_before_push placed m n h.0 after.0, precede_push placed m ns h.1 after.1)
+
+insert_last : (placed : List Node) (n : Node) → AllBefore placed n → insert_node n placed ≡ placed ++ n ∷ []
+insert_last [] n h = refl
+insert_last (m ∷ placed) n h =
+    let above : label_cmp (label_of n) (label_of m) ≡ Greater = labels_total.antisymm (label_of n) (label_of m) ∙ ap ordering_reverse h.0 in
+    rw above (ap (λ (ms : List Node). m ∷ ms) (insert_last placed n h.1))
+
+put_ordered : (ns : Nodes) (placed : List Node) → AreOrdered ns → Precede placed ns → put_in_order (list_of ns) placed ≡ placed ++ list_of ns
+put_ordered no_nodes placed ordered before = sym (append-nil placed)
+put_ordered (nodes n ns) placed ordered before =
+    ap (put_in_order (list_of ns)) (insert_last placed n before.0)
+    ∙ put_ordered ns (placed ++ n ∷ []) ordered.2 (precede_push placed n ns before.1 ordered.1) ∙ append_assoc placed (n ∷ []) (list_of ns)
+
+in_order-ordered : (ns : Nodes) → AreOrdered ns → list_of ns ≡ in_order (list_of ns)
+in_order-ordered ns ordered = sym (put_ordered ns [] ordered (precede_none ns))
+
+differ_after : (x : Label) (ns : Nodes) → AllAfter x ns → AllByRecursion (λ y. label_eq x y ≡ false) (labels_of (list_of ns))
+differ_after x no_nodes h = tt
+differ_after x (nodes n ns) h = (labels_ties x (label_of n) ∙ ap is_eq h.0, differ_after x ns h.1)
+
+differ : (ns : Nodes) → AreOrdered ns → IsDistinct label_eq (labels_of (list_of ns))
+unfolding IsDistinct
+differ no_nodes h = tt
+differ (nodes n ns) h = (differ_after (label_of n) ns h.1, differ ns h.2)
+
+-- ---- a node that is written is read
+
+empty : {A : Type 0} (xs : List A) → length xs ≡ 0 → xs ≡ []
+empty [] h = refl
+empty (x ∷ xs) h = absurd (omega arith)
+
+own_at : (kinds : List (List ℕ)) (label : Label) (local : Local) (below : Nodes) → IsCityOwn kinds label local → OwnAt kinds (bare (node_data (node label local below))) label local
+own_at kinds label local below own = (
+  refl,
+  (refl, refl, Contains-from_any (λ x y. (bytes_eq-Decides x y).0) label.kind kinds own.kind, own.id),
+  ((inl refl, own.attrs), empty local.plain own.no_plain, own.short),
+)
+
+mutual
+  node_reads : (kinds : List (List ℕ)) (levels : ℕ) (n : Node) → IsCityNode kinds levels n → IsOrdered n → IsNode kinds levels (bare (node_data n)) n
+  node_reads kinds zero n h ordered = absurd h
+  node_reads kinds (suc levels) (node label local below) h ordered =
+      from_parts kinds levels (bare (node_data (node label local below))) (node label local below) (bare_items (nodes_data below)) (list_of below)
+      (own_at kinds label local below h.0) (inl refl) (nodes_read kinds levels below h.2 ordered) (record { few = h.1; differ = differ below ordered }) (in_order-ordered below ordered)
+
+  nodes_read : (kinds : List (List ℕ)) (levels : ℕ) (ns : Nodes) → AreCityNodes kinds levels ns → AreOrdered ns → AreNodes kinds levels (bare_items (nodes_data ns)) (list_of ns)
+  nodes_read kinds levels no_nodes h ordered = none levels
+  nodes_read kinds levels (nodes n ns) h ordered =
+      more levels (bare (node_data n)) n (bare_items (nodes_data ns)) (list_of ns) (node_reads kinds levels n h.0 ordered.0) (nodes_read kinds levels ns h.1 ordered.2)
+
+-- ---- what is written is of texts
+
+word_texts : (first later : Letters) (most : ℕ) (word : List ℕ) → IsWord first later most word → IsUtf8 word
+word_texts first later most word w = IsUtf8-from_ascii word (word_ascii first later most word w)
+
+kind_step : (b : Bool) (kind k : List ℕ) (kinds : List (List ℕ)) → bytes_eq kind k ≡ b → (b || list_any (bytes_eq kind) kinds) ≡ true → IsKind k → (list_any (bytes_eq kind) kinds ≡ true → IsKind kind) → IsKind kind
+kind_step true kind k kinds is h first rest = subst IsKind (sym ((bytes_eq-Decides kind k).0 is)) first
+kind_step false kind k kinds is h first rest = rest h
+
+-- one of the kinds
+is_kind : (kinds : List (List ℕ)) (kind : List ℕ) → AllByRecursion IsKind kinds → list_any (bytes_eq kind) kinds ≡ true → IsKind kind
+is_kind [] kind each h = absurd (true≢false (sym h))
+is_kind (k ∷ kinds) kind each h = kind_step (bytes_eq kind k) kind k kinds refl h each.0 (is_kind kinds kind each.1)
+
+kinds_texts : (kinds : List (List ℕ)) → AllByRecursion IsKind kinds → AreOfTexts (items_of (map string kinds))
+kinds_texts [] each = tt
+kinds_texts (k ∷ kinds) each = (word_texts Lower Lower 16 k each.0, kinds_texts kinds each.1)
+
+attrs_after : (name : List ℕ) (pairs : Pairs) → AllByRecursion (λ y. slice_cmp nat_cmp name y ≡ Less) (keys_of pairs) → KeysAfter name (attrs_members pairs)
+attrs_after name [] h = tt
+attrs_after name (p ∷ pairs) h = (h.0, attrs_after name pairs h.1)
+
+attrs_texts : (pairs : Pairs) → AllByRecursion IsAttr pairs → IsStrictlySortedBy (slice_cmp nat_cmp) (keys_of pairs) → HasTexts (attrs_members pairs)
+unfolding IsStrictlySortedBy
+attrs_texts [] each rise = tt
+attrs_texts (p ∷ pairs) each rise = (word_texts Letter WordOrDash 24 p.0 each.0.0.0, each.0.1, attrs_after p.0 pairs rise.0, attrs_texts pairs each.1 rise.1)
+
+mutual
+  node_texts : (kinds : List (List ℕ)) (levels : ℕ) (n : Node) → AllByRecursion IsKind kinds → IsCityNode kinds levels n → IsOfTexts (bare (node_data n))
+  node_texts kinds zero n each h = absurd h
+  node_texts kinds (suc levels) (node label local below) each h =
+      let kind = word_texts Lower Lower 16 label.kind (is_kind kinds label.kind each h.0.kind) in
+      let id = word_texts Word Word 24 label.id h.0.id in (
+        IsUtf8-are_ascii (codes "attrs") refl,
+        attrs_texts local.attrs h.0.attrs.each h.0.attrs.rise,
+        (refl, (refl, (refl, tt))),
+        (
+          IsUtf8-are_ascii (codes "id") refl,
+          id,
+          (refl, (refl, tt)),
+          (IsUtf8-are_ascii (codes "kind") refl, kind, (refl, tt), (IsUtf8-are_ascii (codes "nodes") refl, nodes_texts kinds levels below each h.2, tt, tt)),
+        ),
+      )
+
+  nodes_texts : (kinds : List (List ℕ)) (levels : ℕ) (ns : Nodes) → AllByRecursion IsKind kinds → AreCityNodes kinds levels ns → AreOfTexts (bare_items (nodes_data ns))
+  nodes_texts kinds levels no_nodes each h = tt
+  nodes_texts kinds levels (nodes n ns) each h = (node_texts kinds levels n each h.0, nodes_texts kinds levels ns each h.1)
+
+-- ---- what is written nests little
+
+attrs_depth : (pairs : Pairs) → members_depth (attrs_members pairs) ≡ 0
+attrs_depth [] = refl
+attrs_depth (p ∷ pairs) = rw (attrs_depth pairs) refl
+
+texts_depth : (ts : List (List ℕ)) → items_depth (items_of (map string ts)) ≡ 0
+texts_depth [] = refl
+texts_depth (t ∷ ts) = rw (texts_depth ts) refl
+
+-- an object of attributes, two texts and an array
+own_depth : (attrs below most : ℕ) → attrs ≡ 0 → below ≤ most → suc (max (suc attrs) (max 0 (max 0 (max (suc below) 0)))) ≤ suc (suc most)
+own_depth attrs below most no_depth fits =
+    let inner : max (suc attrs) (max 0 (max 0 (max (suc below) 0))) ≤ suc most =
+    max-le (omega (arith, no_depth)) (max-le (omega arith) (max-le (omega arith) (max-le (omega (arith, fits)) (omega arith)))) in
+    omega (arith, inner)
+
+mutual
+  node_depth : (kinds : List (List ℕ)) (levels : ℕ) (n : Node) → IsCityNode kinds levels n → depth (bare (node_data n)) ≤ levels + levels
+  node_depth kinds zero n h = absurd h
+  node_depth kinds (suc levels) (node label local below) h =
+      omega (arith, own_depth (members_depth (attrs_members local.attrs)) (items_depth (bare_items (nodes_data below))) (levels + levels) (attrs_depth local.attrs) (nodes_depth kinds levels below h.2))
+
+  nodes_depth : (kinds : List (List ℕ)) (levels : ℕ) (ns : Nodes) → AreCityNodes kinds levels ns → items_depth (bare_items (nodes_data ns)) ≤ levels + levels
+  nodes_depth kinds levels no_nodes h = omega arith
+  nodes_depth kinds levels (nodes n ns) h = max-le (node_depth kinds levels n h.0) (nodes_depth kinds levels ns h.1)
+
+-- ---- the line of a city
+
+-- the value of a line, by the parts of a city
+abbrev parts_data : List (List ℕ) → List (List ℕ) → List (List Label × List ℕ) → Node → Data
+parts_data agents kinds place tree = object
+    (member (codes "agents") (texts agents)
+    (member (codes "kinds") (texts kinds)
+    (member (codes "place") (places_data place)
+    (member (codes "tree") (bare (node_data tree))
+    no_members))))
+
+-- the value of the line of a city of one agent
+abbrev line_data : List (List ℕ) → List ℕ → Node → Data
+line_data kinds agent tree = parts_data (agent ∷ []) kinds ((label_of tree ∷ [], agent) ∷ []) tree
+
+line_is_city : (kinds : List (List ℕ)) (agent : List ℕ) (tree : Node) → AreKinds kinds → IsAgentId agent → IsCityNode kinds 16 tree → size_of tree ≤ 20000 → IsOrdered tree → IsCity (line_data kinds agent tree) kinds agent tree
+line_is_city kinds agent tree are is fits small ordered = record {
+  keys = refl;
+  kinds_at = (refl, are);
+  agent_at = (refl, is);
+  tree_at = (bare (node_data tree), refl, node_reads kinds 16 tree fits ordered, small);
+  place_at = refl;
+}
+
+own_of : (kinds : List (List ℕ)) (levels : ℕ) (n : Node) → IsCityNode kinds (suc levels) n → IsCityOwn kinds (label_of n) (local_of n)
+own_of kinds levels (node label local below) h = h.0
+
+label_texts : (kinds : List (List ℕ)) (label : Label) (local : Local) → AllByRecursion IsKind kinds → IsCityOwn kinds label local → IsUtf8 (label_text label)
+label_texts kinds label local each own =
+    IsUtf8-append label.kind (45 ∷ label.id) (word_texts Lower Lower 16 label.kind (is_kind kinds label.kind each own.kind))
+    (IsUtf8-append (45 ∷ []) label.id (IsUtf8-are_ascii (45 ∷ []) refl) (word_texts Word Word 24 label.id own.id))
+
+line_texts : (kinds : List (List ℕ)) (agent : List ℕ) (tree : Node) → AreKinds kinds → IsAgentId agent → IsCityNode kinds 16 tree → IsOfTexts (line_data kinds agent tree)
+line_texts kinds agent tree are is fits =
+    let agent_text = word_texts LowerOrDigit LowerOrDigit 16 agent is in
+    let top_text = label_texts kinds (label_of tree) (local_of tree) are.each (own_of kinds 15 tree fits) in (
+      IsUtf8-are_ascii (codes "agents") refl,
+      (agent_text, tt),
+      (refl, (refl, (refl, tt))),
+      (
+        IsUtf8-are_ascii (codes "kinds") refl,
+        kinds_texts kinds are.each,
+        (refl, (refl, tt)),
+        (
+          IsUtf8-are_ascii (codes "place") refl,
+          ((top_text, (agent_text, tt)), tt),
+          (refl, tt),
+          (IsUtf8-are_ascii (codes "tree") refl, node_texts kinds 16 tree are.each fits, tt, tt),
+        ),
+      ),
+    )
+
+line_depth : (kinds : List (List ℕ)) (agent : List ℕ) (tree : Node) → IsCityNode kinds 16 tree → depth (line_data kinds agent tree) ≤ 127
+line_depth kinds agent tree fits =
+    let below : depth (bare (node_data tree)) ≤ 32 = node_depth kinds 16 tree fits in
+    let inner : max 1 (max (suc (items_depth (items_of (map string kinds)))) (max 2 (max (depth (bare (node_data tree))) 0))) ≤ 126 =
+    max-le (omega arith) (max-le (omega (arith, texts_depth kinds)) (max-le (omega arith) (max-le (omega (arith, below)) (omega arith)))) in
+    omega (arith, inner)
+
+sole : (xs : List (List ℕ)) → length xs ≡ 1 → (x : List ℕ) × (xs ≡ x ∷ [])
+sole [] h = absurd (omega arith)
+sole (x ∷ []) h = (x, refl)
+sole (x ∷ y ∷ xs) h = absurd (omega arith)
+
+-- the compact text of a city's line is a spelling of it
+pub city_reads : (city : City) → IsOrdered city.tree → (line : List ℕ) → line ≡ compact_text (city_data city) → length line ≤ 4194304
+    → (agent : List ℕ) × ReadsCity line city.kinds agent city.tree × IsHeldBy city agent
+city_reads city ordered line written short =
+    let one = sole city.agents city.one_agent in
+    let placed : city.place ≡ (label_of city.tree ∷ [], one.0) ∷ [] = city.placed ∙ ap (map (λ (agent : List ℕ). (label_of city.tree ∷ [], agent))) one.1 in
+    let is : IsAgentId one.0 = (subst (AllByRecursion IsAgentId) one.1 city.agents_fit).0 in
+    let value = line_data city.kinds one.0 city.tree in
+    let same : city_data city ≡ value =
+    ap (λ (agents : List (List ℕ)). parts_data agents city.kinds city.place city.tree) one.1
+    ∙ ap (λ (place : List (List Label × List ℕ)). parts_data (one.0 ∷ []) city.kinds place city.tree) placed in
+    let text : compact_text value ≡ line = sym (written ∙ ap compact_text same) in
+    let json = text_is_json value (line_texts city.kinds one.0 city.tree city.kinds_fit is city.nodes_fit) (line_depth city.kinds one.0 city.tree city.nodes_fit) in
+    let city_is = line_is_city city.kinds one.0 city.tree city.kinds_fit is city.nodes_fit city.few_nodes ordered in
+    (one.0, (short, (value, subst (λ (bytes : List ℕ). IsJson bytes value) text json, city_is)), (one.1, placed))
