@@ -1,6 +1,7 @@
 //! What every crate of iris shares: want of memory, lists, texts, labels and names.
 #![tactic(auto)]
 
+mod cite;
 mod error;
 mod letters;
 mod memory;
@@ -14,6 +15,7 @@ mod tests;
 mod text;
 mod word;
 
+pub use cite::Cite;
 pub use error::{NameError, TextError};
 pub use letters::{Form, Letters};
 pub use memory::{Mem, Memory};

@@ -7,7 +7,7 @@ use Rattle.serde_json.specs.Written.{compact_text}
 use Rattle.iris_base.specs.declared.name.Label.{Label}
 use Rattle.iris_tree.specs.Universe.{Node}
 use Rattle.iris_json.specs.declared.line.Line.TheVariants as lines
-use Rattle.iris_json.specs.declared.out.Cite.{Cite}
+use Rattle.iris_base.specs.declared.cite.Cite.{Cite}
 use Rattle.iris_json.specs.declared.out.Out.TheVariants as outs
 use Rattle.iris_json.specs.CityLine.{ReadsCity}
 use Rattle.iris_json.specs.Lines.{ReadsLine}

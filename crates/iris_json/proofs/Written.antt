@@ -12,7 +12,7 @@ use Rattle.iris_base.specs.NameText.{name_text}
 use Rattle.iris_tree.specs.LocalText.{attrs_data, plain_data, value_tokens}
 use Rattle.iris_tree.specs.Universe.{Node, node, Nodes, no_nodes, nodes, label_of, local_of, list_of, children_of}
 use Rattle.iris_json.specs.declared.item.Item.{Item}
-use Rattle.iris_json.specs.declared.out.Cite.{Cite}
+use Rattle.iris_base.specs.declared.cite.Cite.{Cite}
 use Rattle.iris_json.specs.declared.out.Out.{Out}
 use Rattle.iris_json.specs.declared.city.City.{City}
 use Rattle.iris_json.specs.CityLine.{texts}

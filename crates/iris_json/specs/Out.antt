@@ -4,7 +4,7 @@ use Rattle.serde_json.specs.Data.{Data, unsigned, boolean, number, string, array
 use Rattle.serde_json.specs.View.{items_of}
 use Rattle.serde_json.specs.Written.{compact_text}
 use Rattle.iris_base.specs.NameText.{name_text}
-use Rattle.iris_json.specs.declared.out.Cite.{Cite}
+use Rattle.iris_base.specs.declared.cite.Cite.{Cite}
 use Rattle.iris_json.specs.declared.out.Why.{Why}
 use Rattle.iris_json.specs.declared.out.Why.TheVariants.{Empty, Truncated, Shape}
 use Rattle.iris_json.specs.declared.out.Which.{Which}

@@ -19,4 +19,5 @@ pub use city_line::read_city;
 pub use city_text::write_city;
 pub use item::{Element, Item, write_items, write_tree};
 pub use line::{Line, LineError, LineWhy, read_line};
-pub use out::{Cite, Out, Which, Why, write_out};
+pub use iris_tree::Cite;
+pub use out::{Out, Which, Why, write_out};

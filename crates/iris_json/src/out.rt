@@ -5,31 +5,8 @@ ghost use Rattle.iris_json.specs.declared.out.Out.{Out};
 ghost use Rattle.iris_json.specs.Out.{why_word, which_word, cite_data, cites_data, out_data, out_text};
 
 use crate::item::{Item, put_items};
-use iris_tree::{AgentId, JsonText, Mem, Name, Sequence, name_text};
+use iris_tree::{AgentId, Cite, JsonText, Mem, Sequence, name_text};
 use std::alloc::Global;
-
-/// What an answer rests on: a node's value at a version, which its owner held at a moment.
-#[derive(Debug, Drop)]
-pub struct Cite {
-    pub name: Name,
-    /// The number of updates that the node had had.
-    pub version: u64,
-    /// In milliseconds.
-    pub stamp: u64,
-}
-
-impl Cite {
-    /// A copy, by the same allocator.
-    pub fn copy(&self) -> Mem<Cite>
-        ensures { IfOk result (λ copy. copy ≡ self.now) }
-    {
-        Ok(Cite {
-            name: self.name.copy()?,
-            version: self.version,
-            stamp: self.stamp,
-        })
-    }
-}
 
 /// What is wrong with a script.
 #[derive(Clone, Copy, Debug, PartialEq, Eq)]

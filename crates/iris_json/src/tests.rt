@@ -1,9 +1,9 @@
 //! What is written, with texts from outside.
 
 use crate::item::{Element, Item, write_items, write_tree};
-use crate::out::{Cite, Out, Which, Why, write_out};
+use crate::out::{Out, Which, Why, write_out};
 use iris_tree::{
-    AgentId, Attrs, Id, Kind, Label, Local, Name, Plain, Sequence, Tag, Text, TextError, Tree,
+    AgentId, Attrs, Cite, Id, Kind, Label, Local, Name, Plain, Sequence, Tag, Text, TextError, Tree,
 };
 use std::alloc::Global;
 use std::str;

@@ -17,7 +17,7 @@ pub use attrs::Attrs;
 pub use change::{Change, ChangeError};
 pub use count::changes_len;
 pub use iris_base::{
-    AgentForm, AgentId, Form, Id, IdForm, Kind, KindForm, Label, Letters, Mem, Memory, Name,
+    AgentForm, AgentId, Cite, Form, Id, IdForm, Kind, KindForm, Label, Letters, Mem, Memory, Name,
     NameError, Sequence, Short, Spelled, Tag, TagForm, Text, TextError, name_text, read_name,
 };
 pub use json_text::JsonText;
