@@ -1,8 +1,9 @@
 -- From the members of an object to attributes.
-use Rattle.std.proofs.Common.{◌≡◌, ℕ, suc, List, [], ◌∷◌, ◌++◌, length, map, String, Global, Ordering, Less, Equal, Greater, string_bytes, string_cmp, nat_cmp, Option, Some, Bor, Err, refl, ap, sym, ◌∙◌, subst, arith}
+use Rattle.std.proofs.Common.{◌≡◌, ℕ, suc, List, [], ◌∷◌, ◌++◌, length, map, String, Global, Ordering, Less, Equal, Greater, string_bytes, string_cmp, nat_cmp, Option, Some, Bor, Err, refl, ap, sym, ◌∙◌, subst}
 use Rattle.std.specs.Cmp.Lexicographic.{slice_cmp}
 use Rattle.std.specs.List.{AllByRecursion}
 use Rattle.std.specs.List.Sorted.{IsStrictlySortedBy}
+use Rattle.std.specs.Str.{IsUtf8}
 use Rattle.std.specs.Map.{keys_of}
 use Rattle.std.specs.Ordering.{match_ordering}
 use Rattle.std.specs.Iterator.{Yields}
@@ -16,7 +17,7 @@ use Rattle.iris_tree.specs.Attrs.{Pairs, with_attr}
 use Rattle.iris_tree.specs.LocalText.{attrs_members}
 use Rattle.iris_json.specs.declared.city.CityError.{CityError}
 use Rattle.iris_json.specs.declared.city.CityError.TheVariants.{BadCity, Memory}
-use Rattle.iris_json.specs.CityForm.{IsAttrName, IsAttr, AreAttrs}
+use Rattle.iris_json.specs.CityForm.{IsAttrName, AreTexts}
 use Rattle.iris_json.specs.CityLine.{Gives}
 
 -- an error that one reader may give another may give too
@@ -44,6 +45,10 @@ all-match_ordering P Less a b c ha hb hc = ha
 all-match_ordering P Equal a b c ha hb hc = hb
 all-match_ordering P Greater a b c ha hb hc = hc
 
+-- an attribute: a name of the form, and a text
+abbrev pub IsAttr : List ℕ × List ℕ → Type 0
+IsAttr pair = IsAttrName pair.0 × IsUtf8 pair.1
+
 -- one more attribute
 attrs_more : (pairs : Pairs) (name text : List ℕ) → IsAttr (name, text) → AllByRecursion IsAttr pairs → AllByRecursion IsAttr (with_attr pairs name text)
 attrs_more [] name text h all = (h, tt)
@@ -52,13 +57,13 @@ attrs_more (p ∷ pairs) name text h all = all-match_ordering IsAttr (slice_cmp 
 -- a loop over members has read one attribute more
 pub attr_step : (done : List Entry) (e : Entry) (more : List Entry) (pairs new : Pairs) (name tag text : List ℕ) → IsStrictlySortedBy string_cmp (keys_of (done ++ e ∷ more))
     → (members_view done ≡ attrs_members pairs) × AllByRecursion IsAttr pairs → name ≡ string_bytes e.0
-    → (tag ≡ name) × IsAttr (name, text) × (view e.1 ≡ string text) → new ≡ with_attr pairs tag text
+    → (tag ≡ name) × IsAttrName name × (view e.1 ≡ string text) → IsUtf8 text → new ≡ with_attr pairs tag text
     → (members_view (done ++ e ∷ []) ≡ attrs_members new) × AllByRecursion IsAttr new
-attr_step done e more pairs new name tag text sorted so_far named read is =
+attr_step done e more pairs new name tag text sorted so_far named read utf8 is =
     let tag_is : tag ≡ string_bytes e.0 = read.0 ∙ named in
     let new_is : new ≡ with_attr pairs (string_bytes e.0) text = is ∙ ap (λ (t : List ℕ). with_attr pairs t text) tag_is in (
       attr_last done e more pairs text sorted so_far.0 read.2 ∙ ap attrs_members (sym new_is),
-      subst (AllByRecursion IsAttr) (sym new_is) (attrs_more pairs (string_bytes e.0) text (subst IsAttrName named read.1.0, read.1.1) so_far.1),
+      subst (AllByRecursion IsAttr) (sym new_is) (attrs_more pairs (string_bytes e.0) text (subst IsAttrName named read.1, utf8) so_far.1),
     )
 
 -- the members before an item of a loop, the item, and those after it
@@ -87,13 +92,13 @@ attrs_same (p ∷ pairs) (q ∷ others) same =
     rw (left, right, tail) refl
 
 -- a member that is an attribute has a name of the form and a text
-pub attr_here : (done : List Entry) (e : Entry) (more : List Entry) (pairs : Pairs) → members_view (done ++ e ∷ more) ≡ attrs_members pairs → AllByRecursion IsAttr pairs
+pub attr_here : (done : List Entry) (e : Entry) (more : List Entry) (pairs : Pairs) → members_view (done ++ e ∷ more) ≡ attrs_members pairs → AllByRecursion (λ p. IsAttrName p.0) pairs
     → (text : List ℕ) × IsAttrName (string_bytes e.0) × (view e.1 ≡ string text)
 attr_here [] e more [] same named = absurd (cc)
 attr_here [] e more (p ∷ pairs) same named =
     let name : p.0 ≡ string_bytes e.0 = cc in
     let is : view e.1 ≡ string p.1 = cc in
-    (p.1, subst IsAttrName name named.0.0, is)
+    (p.1, subst IsAttrName name named.0, is)
 attr_here (d ∷ done) e more [] same named = absurd (cc)
 attr_here (d ∷ done) e more (p ∷ pairs) same named =
     let rest : members_view (done ++ e ∷ more) ≡ attrs_members pairs = cc in
@@ -122,7 +127,16 @@ names_rise (e ∷ es) (p ∷ pairs) same h =
     let rest : members_view es ≡ attrs_members pairs = cc in
     (names_after p.0 e.0 es pairs first rest h.0, names_rise es pairs rest h.1)
 
+-- the names, and the texts
+pub names_of : (pairs : Pairs) → AllByRecursion IsAttr pairs → AllByRecursion (λ p. IsAttrName p.0) pairs
+names_of [] each = tt
+names_of (p ∷ pairs) each = (each.0.0, names_of pairs each.1)
+
+pub texts_of : (pairs : Pairs) → AllByRecursion IsAttr pairs → AllByRecursion (λ p. IsUtf8 p.1) pairs
+texts_of [] each = tt
+texts_of (p ∷ pairs) each = (each.0.1, texts_of pairs each.1)
+
 -- no attributes
-pub no_attrs : AreAttrs []
+pub no_texts : AreTexts []
 unfolding IsStrictlySortedBy
-no_attrs = record { few = omega arith; each = tt; rise = tt }
+no_texts = record { rise = tt; utf8 = tt }

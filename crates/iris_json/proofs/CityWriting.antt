@@ -30,7 +30,7 @@ use Rattle.iris_tree.specs.Universe.{Node, node, Nodes, no_nodes, nodes, list_of
 use Rattle.iris_json.specs.declared.city.City.{City}
 use Rattle.iris_json.specs.Lines.{IsJson}
 use Rattle.iris_json.specs.Render.{node_data, nodes_data}
-use Rattle.iris_json.specs.CityForm.{AreKinds, IsAttr, IsCityOwn, IsCityNode, AreCityNodes}
+use Rattle.iris_json.specs.CityForm.{AreKinds, IsAttrName, IsCityOwn, IsCityNode, AreCityNodes}
 use Rattle.iris_json.specs.CityLine.{texts, OwnAt, IsNode, AreNodes, none, more, put_in_order, in_order, IsCity, ReadsCity, IsHeldBy}
 use Rattle.iris_json.specs.CityText.{bare, bare_items, places_data, city_data}
 use Rattle.iris_json.proofs.NodeReading.{from_parts}
@@ -129,10 +129,10 @@ attrs_after : (name : List ℕ) (pairs : Pairs) → AllByRecursion (λ y. slice_
 attrs_after name [] h = tt
 attrs_after name (p ∷ pairs) h = (h.0, attrs_after name pairs h.1)
 
-attrs_texts : (pairs : Pairs) → AllByRecursion IsAttr pairs → IsStrictlySortedBy (slice_cmp nat_cmp) (keys_of pairs) → HasTexts (attrs_members pairs)
+attrs_texts : (pairs : Pairs) → AllByRecursion (λ p. IsAttrName p.0) pairs → AllByRecursion (λ p. IsUtf8 p.1) pairs → IsStrictlySortedBy (slice_cmp nat_cmp) (keys_of pairs) → HasTexts (attrs_members pairs)
 unfolding IsStrictlySortedBy
-attrs_texts [] each rise = tt
-attrs_texts (p ∷ pairs) each rise = (word_texts Letter WordOrDash 24 p.0 each.0.0.0, each.0.1, attrs_after p.0 pairs rise.0, attrs_texts pairs each.1 rise.1)
+attrs_texts [] named utf8 rise = tt
+attrs_texts (p ∷ pairs) named utf8 rise = (word_texts Letter WordOrDash 24 p.0 named.0.0, utf8.0, attrs_after p.0 pairs rise.0, attrs_texts pairs named.1 utf8.1 rise.1)
 
 mutual
   node_texts : (kinds : List (List ℕ)) (levels : ℕ) (n : Node) → AllByRecursion IsKind kinds → IsCityNode kinds levels n → IsOfTexts (bare (node_data n))
@@ -141,7 +141,7 @@ mutual
       let kind = word_texts Lower Lower 16 label.kind (is_kind kinds label.kind each h.0.kind) in
       let id = word_texts Word Word 24 label.id h.0.id in (
         IsUtf8-are_ascii (codes "attrs") refl,
-        attrs_texts local.attrs h.0.attrs.each h.0.attrs.rise,
+        attrs_texts local.attrs h.0.attrs.named h.0.texts.utf8 h.0.texts.rise,
         (refl, (refl, (refl, tt))),
         (
           IsUtf8-are_ascii (codes "id") refl,

@@ -218,7 +218,7 @@ label-with_child (node label local below) n = refl
 local-with_child : (t n : Node) → local_of (with_child t n) ≡ local_of t
 local-with_child (node label local below) n = refl
 
-children-with_child : (t n : Node) → children_of (with_child t n) ≡ insert_node n (children_of t)
+pub children-with_child : (t n : Node) → children_of (with_child t n) ≡ insert_node n (children_of t)
 children-with_child (node label local below) n = list_of-nodes_of (insert_node n (list_of below))
 
 -- one child more
@@ -249,7 +249,7 @@ so_step kinds levels items i first tree left whole ns s v within is n new now on
 
 -- ---- the ways out
 
-nodes_len : (kinds : List (List ℕ)) (levels : ℕ) (vs : List Value) (ns : List Node) → AreNodes kinds levels (items_view vs) ns → length ns ≡ length vs
+pub nodes_len : (kinds : List (List ℕ)) (levels : ℕ) (vs : List Value) (ns : List Node) → AreNodes kinds levels (items_view vs) ns → length ns ≡ length vs
 nodes_len kinds levels [] ns are = ap length (split kinds levels no_items ns are)
 nodes_len kinds levels (v ∷ vs) ns are =
     let s = split kinds levels (items_view (v ∷ vs)) ns are in

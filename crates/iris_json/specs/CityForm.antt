@@ -25,21 +25,22 @@ pub record AreKinds (kinds : List (List ℕ)) : Type 0 where
 abbrev pub IsAttrName : List ℕ → Type 0
 IsAttrName name = IsTag name × (bytes_eq name (codes "id") ≡ false)
 
--- an attribute: its name and its text
-abbrev pub IsAttr : List ℕ × List ℕ → Type 0
-IsAttr pair = IsAttrName pair.0 × IsUtf8 pair.1
-
--- at most 64 attributes, in the order of their names
+-- at most 64 attributes
 pub record AreAttrs (pairs : Pairs) : Type 0 where
   pub few : length pairs ≤ 64
-  pub each : AllByRecursion IsAttr pairs
+  pub named : AllByRecursion (λ p. IsAttrName p.0) pairs
+
+-- attributes in the order of their names, with texts as their values
+pub record AreTexts (pairs : Pairs) : Type 0 where
   pub rise : IsStrictlySortedBy (slice_cmp nat_cmp) (keys_of pairs)
+  pub utf8 : AllByRecursion (λ p. IsUtf8 p.1) pairs
 
 -- what a node of a city is called and holds itself: it is of one of the kinds, has no plain elements, and its canonical text is short
 pub record IsCityOwn (kinds : List (List ℕ)) (label : Label) (local : Local) : Type 0 where
   pub kind : list_any (bytes_eq label.kind) kinds ≡ true
   pub id : IsId label.id
   pub attrs : AreAttrs local.attrs
+  pub texts : AreTexts local.attrs
   pub no_plain : length local.plain ≡ 0
   pub short : length (local_text local) ≤ 1024
 

@@ -5,6 +5,7 @@ ghost use Rattle.serde_json.specs.Find.{get_member};
 ghost use Rattle.serde_json.specs.View.{view, members_view};
 ghost use Rattle.iris_base.specs.Forms.{IsKind};
 ghost use Rattle.iris_tree.specs.Universe.{Node};
+ghost use Rattle.iris_json.specs.CityForm.{IsCityNode};
 ghost use Rattle.iris_json.specs.CityLine.{texts, KindsAt, AgentAt, TreeAt, PlaceAt, IsCity, ReadsCity, IsHeldBy, Gives, GivesCity};
 
 use crate::city::{City, CityError, CityWhy};
@@ -125,6 +126,7 @@ fn read_place(
 fn read_tree(alloc: Global, kinds: &[Kind], members: &Members) -> Result<Tree, CityError>
     requires kinds { 0 < length kinds.now }
     ensures found { IfOk result (λ tree. TreeAt kinds.now (object (members_view members.now.entries)) tree) }
+    ensures fits { IfOk result (λ tree. IsCityNode kinds.now 16 tree) }
     ensures only { (tree : Node) → TreeAt kinds.now (object (members_view members.now.entries)) tree → Gives result tree }
 {
     let Some(value) = value_at(members, "tree") else {

@@ -1,14 +1,14 @@
 //! The nodes of a city line.
 ghost use Rattle.std.specs.Prelude.{◌≡◌, ℕ, ◌+◌, ◌<◌, ◌≤◌, List, length, IfOk, IfErr};
 ghost use Rattle.std.specs.List.{find};
-ghost use Rattle.std.specs.Str.{bytes_eq};
+ghost use Rattle.std.specs.Str.{bytes_eq, IsUtf8};
 ghost use Rattle.serde_json.specs.Data.{string, object, Items};
 ghost use Rattle.serde_json.specs.View.{view, items_view, members_view};
 ghost use Rattle.iris_tree.specs.Attrs.{Pairs};
 ghost use Rattle.iris_tree.specs.LocalText.{attrs_members};
 ghost use Rattle.iris_tree.specs.NodeCode.{size_of};
 ghost use Rattle.iris_tree.specs.Universe.{Node};
-ghost use Rattle.iris_json.specs.CityForm.{IsAttrName, IsAttr, AreAttrs};
+ghost use Rattle.iris_json.specs.CityForm.{IsAttrName, AreAttrs, AreTexts, IsCityOwn, IsCityNode};
 ghost use Rattle.iris_json.specs.CityLine.{AttrsAt, LocalAt, NodesAt, LabelAt, OwnAt, IsNode, Gives};
 
 use crate::city::{CityError, CityWhy};
@@ -75,7 +75,8 @@ fn read_label(kinds: &[Kind], members: &Members) -> Result<Label, CityError>
 
 // The name and the value of an attribute.
 fn read_attr(alloc: Global, name: &str, value: &Value) -> Result<(Tag, Text), CityError>
-    ensures found { IfOk result (λ attr. (attr.0 ≡ name.now) × IsAttr (name.now, attr.1) × (view value.now ≡ string attr.1)) }
+    ensures found { IfOk result (λ attr. (attr.0 ≡ name.now) × IsAttrName name.now × (view value.now ≡ string attr.1)) }
+    ensures utf8 { IfOk result (λ attr. IsUtf8 attr.1) }
     ensures only { (text : List ℕ) → IsAttrName name.now → view value.now ≡ string text → Gives result (name.now, text) }
 {
     let Some(text) = value.as_str() else {
@@ -94,6 +95,7 @@ fn read_attr(alloc: Global, name: &str, value: &Value) -> Result<(Tag, Text), Ci
 // The attributes that these members are.
 fn read_members(alloc: Global, members: &Members) -> Result<Attrs, CityError>
     ensures found { IfOk result (λ attrs. (members_view members.now.entries ≡ attrs_members attrs) × AreAttrs attrs) }
+    ensures texts { IfOk result AreTexts }
     ensures only { (pairs : Pairs) → members_view members.now.entries ≡ attrs_members pairs → AreAttrs pairs → Gives result pairs }
 {
     if members.len() > MOST_ATTRS {
@@ -108,9 +110,10 @@ fn read_members(alloc: Global, members: &Members) -> Result<Attrs, CityError>
 }
 
 // The attributes at the key `attrs`.
-#[tactic(auto, using(crate::proofs::AttrReading::no_attrs))]
+#[tactic(auto, using(crate::proofs::AttrReading::no_texts))]
 fn read_attrs(alloc: Global, members: &Members) -> Result<Attrs, CityError>
     ensures found { IfOk result (λ attrs. AttrsAt (object (members_view members.now.entries)) attrs) }
+    ensures texts { IfOk result AreTexts }
     ensures only { (pairs : Pairs) → AttrsAt (object (members_view members.now.entries)) pairs → Gives result pairs }
 {
     match value_at(members, "attrs") {
@@ -125,6 +128,7 @@ fn read_attrs(alloc: Global, members: &Members) -> Result<Attrs, CityError>
 // What a node holds itself.
 fn read_local(alloc: Global, members: &Members) -> Result<Local, CityError>
     ensures found { IfOk result (λ local. LocalAt (object (members_view members.now.entries)) local) }
+    ensures texts { IfOk result (λ local. AreTexts local.attrs) }
     ensures only { (local : Local) → LocalAt (object (members_view members.now.entries)) local → Gives result local }
 {
     let attrs = read_attrs(alloc, members)?;
@@ -141,6 +145,7 @@ fn read_local(alloc: Global, members: &Members) -> Result<Local, CityError>
 // What a node is called, and what it holds itself.
 fn read_own(alloc: Global, kinds: &[Kind], members: &Members) -> Result<(Label, Local), CityError>
     ensures found { IfOk result (λ own. OwnAt kinds.now (object (members_view members.now.entries)) own.0 own.1) }
+    ensures fits { IfOk result (λ own. IsCityOwn kinds.now own.0 own.1) }
     ensures only { (label : Label) (local : Local) → OwnAt kinds.now (object (members_view members.now.entries)) label local → Gives result (label, local) }
 {
     if !has_only(members, &["kind", "id", "attrs", "nodes"]) {
@@ -177,6 +182,7 @@ pub fn read_node(
 ) -> Result<Tree, CityError>
     requires kinds { 0 < length kinds.now }
     ensures found { IfOk result (λ tree. IsNode kinds.now levels (view value.now) tree) }
+    ensures fits { IfOk result (λ tree. IsCityNode kinds.now levels tree) }
     ensures counts { IfOk result (λ tree. left.new + size_of tree ≡ left.old) }
     ensures only { (tree : Node) → IsNode kinds.now levels (view value.now) tree → size_of tree ≤ left.old → Gives result tree }
 {

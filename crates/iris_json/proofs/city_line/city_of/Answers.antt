@@ -5,7 +5,7 @@ use Rattle.serde_json.specs.Data.{object}
 use Rattle.serde_json.specs.View.{members_view}
 use Rattle.iris_tree.specs.Universe.{label_of}
 use Rattle.iris_base.specs.Forms.{IsAgentId}
-use Rattle.iris_json.proofs.CityNodes.{tree_fits}
+use Rattle.iris_json.specs.CityForm.{IsCityNode}
 use Rattle.iris_json.proofs.CityReading.{city_refused, place_read, tree_read, one_agent, one_place}
 use Rattle.iris_json.proofs.city_line.city_of.Goals as goal
 
@@ -54,7 +54,7 @@ invariant_of-result-clause-placed c =
     place ∙ sym (ap (map (λ (agent : List ℕ). (label_of c.in_ok-tree.tree ∷ [], agent))) one)
 
 pub invariant_of-result-clause-nodes_fit : goal.invariant_of-result-clause-nodes_fit
-invariant_of-result-clause-nodes_fit c = tree_fits _ _ (object (members_view c.args.members.now.entries)) _ c.as_slice.ensures c.in_ok-tree.ensures.found
+invariant_of-result-clause-nodes_fit c = subst (λ (kinds : List (List ℕ)). IsCityNode kinds 16 c.in_ok-tree.tree) c.as_slice.ensures c.in_ok-tree.ensures.fits
 
 pub invariant_of-result-clause-few_nodes : goal.invariant_of-result-clause-few_nodes
 invariant_of-result-clause-few_nodes c = c.in_ok-tree.ensures.found.3

@@ -1,8 +1,9 @@
-use Rattle.std.proofs.Common.{[], arith, ap, ◌∙◌}
+use Rattle.std.proofs.Common.{[], ◌-◌, arith, ap, ◌∙◌}
 use Rattle.std.proofs.lemmas.Result.{err_from_is_err_and}
 use Rattle.iris_tree.specs.NodeCode.{size_of}
 use Rattle.iris_tree.specs.Universe.{Node, label_of, local_of, children_of, child_of}
 use Rattle.iris_json.proofs.AttrReading.{same_error}
+use Rattle.iris_json.proofs.CityNodes.{fit_start, fit_step, fit_found}
 use Rattle.iris_json.proofs.NodeReading.{so_start, so_step, so_found, so_only, next_node, new_label, below_it, own_of, nodes_of_it, not_some, insert_refused}
 use Rattle.iris_json.proofs.node.+read_node.Goals as goal
 
@@ -23,7 +24,11 @@ returns-then-nodes-gt-MOST_CHILDREN-clause-only t c tree is small =
     omega (arith, b.3.few, b.6, c.if-nodes-gt-MOST_CHILDREN.true)
 
 pub loop-node-init : goal.loop-node-init
-loop-node-init t c = ([], so_start _ _ _ _ _ _ (ap children_of c.new-tree.ensures) (omega (arith, ap size_of c.new-tree.ensures, c.if-left-eq0.false)))
+loop-node-init t c = (
+  [],
+  so_start _ _ _ _ _ _ (ap children_of c.new-tree.ensures) (omega (arith, ap size_of c.new-tree.ensures, c.if-left-eq0.false)),
+  fit_start c.args.kinds.now (c.args.levels - 1) c.new-tree.result (ap children_of c.new-tree.ensures),
+)
 
 pub returns-in_err-read_node-clause-only : goal.returns-in_err-read_node-clause-only
 returns-in_err-read_node-clause-only t c tree is small =
@@ -42,12 +47,19 @@ returns-in_err-insert-clause-only t c tree is small =
     rw (p.1, p.2) (insert_refused _ _ tree c.in_err-insert.ensures.twin (ap (λ (n : Node). child_of (label_of n) (children_of c.loop-node.tree)) same ∙ fresh))
 
 pub loop-node-preserved : goal.loop-node-preserved
-loop-node-preserved t c =
-    (_, so_step _ _ _ _ _ _ _ _ _ c.loop-node.invariant.1 c.node-item.result c.loop-node-test.true c.node-item.is c.in_ok-read_node.field-0 _ _ c.in_ok-read_node.ensures.found c.in_ok-read_node.ensures.only c.in_ok-read_node.ensures.counts c.in_ok-insert.ensures.ok (not_some _ c.in_ok-insert.field-0 c.in_ok-insert.ensures.twin))
+loop-node-preserved t c = (
+  _,
+  so_step _ _ _ _ _ _ _ _ _ c.loop-node.invariant.1 c.node-item.result c.loop-node-test.true c.node-item.is c.in_ok-read_node.field-0 _ _ c.in_ok-read_node.ensures.found c.in_ok-read_node.ensures.only c.in_ok-read_node.ensures.counts c.in_ok-insert.ensures.ok (not_some _ c.in_ok-insert.field-0 c.in_ok-insert.ensures.twin),
+  fit_step c.args.kinds.now (c.args.levels - 1) c.loop-node.tree _ c.in_ok-read_node.field-0 c.loop-node.invariant.2 c.in_ok-read_node.ensures.fits c.in_ok-insert.ensures.ok,
+)
 
 pub returns-clause-found : goal.returns-clause-found
 returns-clause-found t c =
     so_found c.args.kinds.now c.args.levels _ _ _ _ _ _ _ _ _ c.loop-node.invariant.1 c.if-levels-eq0.false c.in-Some.ensures c.in_ok-label.label c.in_ok-label.local c.new-tree.ensures c.in_ok-label.ensures.found c.in_ok-nodes.ensures.found c.loop-node-test.false (omega (arith, c.if-nodes-gt-MOST_CHILDREN.false))
+
+pub returns-clause-fits : goal.returns-clause-fits
+returns-clause-fits t c =
+    fit_found c.args.kinds.now c.args.levels _ _ _ _ _ _ _ c.loop-node.invariant.1 c.loop-node.invariant.2 c.if-levels-eq0.false c.in_ok-label.label c.in_ok-label.local c.new-tree.ensures c.in_ok-label.ensures.fits c.loop-node-test.false (omega (arith, c.if-nodes-gt-MOST_CHILDREN.false))
 
 pub returns-clause-only : goal.returns-clause-only
 returns-clause-only t c tree is small =
