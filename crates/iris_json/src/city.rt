@@ -110,7 +110,8 @@ impl From<TextError> for CityError {
     }
 }
 
-/// A city: the kinds of its nodes, the agents that hold it, where its parts are placed, and its nodes.
+/// A city: the kinds of its nodes, the agents that hold it, where its parts are placed, and its nodes. It
+/// keeps to the form and the limits of a city line, whoever makes it.
 #[derive(Debug, Drop)]
 pub struct City {
     /// The kinds, in the order of the line.
