@@ -18,7 +18,8 @@ use Rattle.iris_base.specs.NameOrder.{label_cmp}
 use Rattle.iris_fragment.specs.declared.held.Held.{Held}
 use Rattle.iris_fragment.specs.declared.held.Part.{Part}
 use Rattle.iris_base.specs.Under.{Under}
-use Rattle.iris_fragment.specs.Held.{Nodes, named, held_at, is_held}
+use Rattle.iris_fragment.specs.Held.{Nodes, held_at, is_held}
+use Rattle.iris_fragment.specs.Stored.{named}
 use Rattle.iris_fragment.specs.Changes.{with_node, without_node, replaced, with_part, with_part_in, has_child}
 use Rattle.iris_fragment.specs.Shape.{IsRooted}
 use Rattle.iris_fragment.proofs.Names.{name_exact, equal_from_is_eq}

@@ -1,8 +1,5 @@
 -- What a fragment holds, and how each node stands in it.
-use Rattle.std.specs.Prelude.{Bool, true, false, List, [], ◌∷◌, map, Option, Some, None, is_some, refl}
-use Rattle.std.specs.Prelude.{Vec}
-use Rattle.std.specs.declared.alloc.Global.{Global}
-use Rattle.std.specs.Coded.{Coded, coded×, coded_list, code_by}
+use Rattle.std.specs.Prelude.{Bool, true, false, List, [], ◌∷◌, Option, Some, None, is_some}
 use Rattle.std.specs.List.{list_any}
 use Rattle.std.specs.Map.{lookup}
 use Rattle.std.specs.BTreeMap.{is_at}
@@ -21,18 +18,10 @@ use Rattle.iris_fragment.specs.declared.status.Status.TheVariants.{Owned, Comple
 abbrev pub Nodes : Type 0
 Nodes = List (List Label × Held)
 
--- entries under lists of labels, wherever the lists lie
-abbrev pub named : List (Vec Label Global × Held) → Nodes
-named entries = map (λ e. (e.0.items, e.1)) entries
-
 -- a fragment: the label of the city's top node, and the held nodes
 pub record Contents : Type 0 where
   pub top : Label
   pub nodes : Nodes
-
--- how proofs store the contents of a fragment
-abbrev pub contents_code : Coded Label → Coded Held → Coded Contents
-contents_code label held = code_by (Label × Nodes) (coded× label (coded_list (coded× (coded_list label) held))) (λ f. (f.top, f.nodes)) (λ p. record { top = p.0; nodes = p.1 }) (λ _. refl)
 
 -- what is held of the node of that name
 abbrev pub held_at : Nodes → List Label → Option Held

@@ -1,4 +1,5 @@
 pub mod Held
+pub mod Stored
 pub mod Usable
 pub mod Changes
 pub mod Shape

@@ -3,7 +3,7 @@ ghost use Rattle.std.specs.Prelude.{◌≡◌, ◌+◌, ◌<◌, ◌^◌, true, 
 ghost use Rattle.std.specs.Prelude.{if◌then◌else◌};
 ghost use Rattle.std.specs.List.{list_any};
 ghost use Rattle.iris_base.specs.NameOrder.{label_eq};
-ghost use Rattle.iris_tree.specs.Universe.{Node};
+ghost use Rattle.iris_tree.specs.Universe.{Node, label_of};
 ghost use Rattle.iris_fragment.specs.declared.status.Status.TheVariants as standing;
 ghost use Rattle.iris_fragment.specs.Held.{status, is_held, is_held_at, has_place, is_listed, listed_at};
 ghost use Rattle.iris_fragment.specs.Usable.{usable, piece_at, usable_pieces};
@@ -33,7 +33,8 @@ pub struct Fragment {
 impl Model for Fragment {
     ghost use Rattle.iris_base.specs.contracts.name.Label as label_type;
     ghost use Rattle.iris_fragment.specs.contracts.held.Held as held_type;
-    ghost use Rattle.iris_fragment.specs.Held.{Contents, contents_code};
+    ghost use Rattle.iris_fragment.specs.Held.{Contents};
+    ghost use Rattle.iris_fragment.specs.Stored.{contents_code};
     ghost use Rattle.iris_fragment.specs.Shape.{IsRooted};
 
     ghost Value = { Contents };
@@ -48,7 +49,8 @@ impl Model for Fragment {
 impl Fragment {
     /// A fragment that holds nothing, of a city whose top node has that label. It takes no memory.
     pub fn new(alloc: Global, top: Label) -> Fragment
-        ensures { result ≡ record { top = top; nodes = [] } }
+        ensures value { result ≡ record { top = top; nodes = [] } }
+        ensures of_city { (city : Node) → top ≡ label_of city → IsPartOf city result }
     {
         Fragment {
             alloc,

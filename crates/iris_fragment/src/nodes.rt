@@ -1,6 +1,7 @@
 //! The held nodes, by their names.
 ghost use Rattle.std.specs.Prelude.{◌≡◌, true, [], OnOk, OnErr, option_copied, option_map};
-ghost use Rattle.iris_fragment.specs.Held.{named, held_at, is_held, has_place};
+ghost use Rattle.iris_fragment.specs.Held.{held_at, is_held, has_place};
+ghost use Rattle.iris_fragment.specs.Stored.{named};
 ghost use Rattle.iris_fragment.specs.Changes.{with_node, without_node, with_part, part_in, takes, takes_any, joined, own_version, has_child};
 ghost use Rattle.iris_fragment.specs.Shape.{AreOrdered, IsRooted};
 
@@ -30,7 +31,7 @@ impl Model for Nodes {
     ghost use Rattle.std.specs.Coded.{coded×, coded_list};
     ghost use Rattle.iris_base.specs.contracts.name.Label as label_type;
     ghost use Rattle.iris_fragment.specs.contracts.held.Held as held_type;
-    ghost use Rattle.iris_fragment.specs.Held.{named};
+    ghost use Rattle.iris_fragment.specs.Stored.{named};
 
     ghost Value = { List (List Label × Held) };
 

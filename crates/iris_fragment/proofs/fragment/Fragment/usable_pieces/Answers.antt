@@ -3,7 +3,8 @@ use Rattle.std.specs.Map.Iter.{deref_pair}
 use Rattle.std.proofs.lemmas.List.{map-append}
 use Rattle.iris_base.specs.declared.name.Label.{Label}
 use Rattle.iris_fragment.specs.declared.held.Held.{Held}
-use Rattle.iris_fragment.specs.Held.{Nodes, named}
+use Rattle.iris_fragment.specs.Held.{Nodes}
+use Rattle.iris_fragment.specs.Stored.{named}
 use Rattle.iris_fragment.specs.Usable.{usable_piece}
 use Rattle.iris_fragment.proofs.Parts.{one_more_piece}
 use Rattle.iris_fragment.proofs.fragment.Fragment.usable_pieces.Goals as goal

@@ -1,6 +1,6 @@
 use Rattle.std.proofs.Common.{◌≡◌, map, filter_map}
 use Rattle.std.specs.Map.Iter.{deref_pair}
-use Rattle.iris_fragment.specs.Held.{named}
+use Rattle.iris_fragment.specs.Stored.{named}
 use Rattle.iris_fragment.specs.Usable.{usable_piece}
 use Rattle.iris_fragment.proofs.fragment.Fragment.usable_pieces.Given as goal
 

@@ -1,6 +1,7 @@
 use Rattle.std.proofs.Common.{◌∙◌, ap, List}
 use Rattle.iris_base.specs.declared.name.Label.{Label}
-use Rattle.iris_fragment.specs.Held.{Nodes, named}
+use Rattle.iris_fragment.specs.Held.{Nodes}
+use Rattle.iris_fragment.specs.Stored.{named}
 use Rattle.iris_fragment.specs.Changes.{with_node}
 use Rattle.iris_fragment.proofs.Named.{Entries, named-insert, sorted-named}
 use Rattle.iris_fragment.proofs.nodes.Nodes.insert.Goals as goal

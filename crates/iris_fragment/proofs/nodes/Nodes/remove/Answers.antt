@@ -1,5 +1,6 @@
 use Rattle.std.proofs.Common.{◌∙◌, ap}
-use Rattle.iris_fragment.specs.Held.{Nodes, named}
+use Rattle.iris_fragment.specs.Held.{Nodes}
+use Rattle.iris_fragment.specs.Stored.{named}
 use Rattle.iris_fragment.specs.Changes.{without_node}
 use Rattle.iris_fragment.proofs.Named.{Entries, named-remove, sorted-named}
 use Rattle.iris_fragment.proofs.nodes.Nodes.remove.Goals as goal

@@ -2,7 +2,7 @@ use Rattle.std.proofs.Common.{◌≡◌, ◌∙◌, ap, refl, rules, Some, None}
 use Rattle.std.specs.Map.{lookup}
 use Rattle.std.specs.BTreeMap.{is_at}
 use Rattle.iris_fragment.specs.declared.held.Part.{Part}
-use Rattle.iris_fragment.specs.Held.{named}
+use Rattle.iris_fragment.specs.Stored.{named}
 use Rattle.iris_fragment.proofs.Named.{Entries, against, held_now, part_put, part_not_put, sorted-named}
 use Rattle.iris_fragment.proofs.nodes.Nodes.replace.Goals as goal
 
