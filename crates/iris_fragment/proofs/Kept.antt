@@ -1,22 +1,22 @@
 -- What stays so when nodes change: each name's parent is held, and ids are those of a city.
-use Rattle.std.proofs.Common.{◌≡◌, Bool, true, false, cond, List, [], ◌∷◌, ◌++◌, Option, Some, None, is_some, refl, sym, ap, subst, ◌∙◌}
+use Rattle.std.proofs.Common.{option_map, ◌≡◌, Bool, true, false, cond, List, [], ◌∷◌, ◌++◌, Option, Some, None, is_some, refl, sym, ap, subst, ◌∙◌}
 use Rattle.std.specs.declared.cmp.Ordering.{Ordering}
 use Rattle.std.specs.declared.cmp.Ordering.TheVariants.{Less, Equal, Greater}
 use Rattle.std.specs.Ordering.{match_ordering, eq_by_cmp}
 use Rattle.std.specs.Cmp.{eq_by_cmp_equiv}
-use Rattle.std.specs.Cmp.Lexicographic.{slice_cmp}
+use Rattle.std.specs.Cmp.Lexicographic.{slice_cmp, pointwise}
 use Rattle.std.specs.BTreeMap.{is_at}
 use Rattle.std.proofs.lemmas.Map.{lookup-set_value, lookup-remove_entry}
 use Rattle.std.proofs.lemmas.Map.Keys.{IsDistinct-from_sorted}
 use Rattle.iris_base.specs.declared.name.Label.{Label}
-use Rattle.iris_base.specs.NameOrder.{label_cmp, names_total}
+use Rattle.iris_base.specs.NameOrder.{label_eq, label_cmp, names_total, names_ties, names_equiv}
 use Rattle.iris_tree.specs.Universe.{Node}
 use Rattle.iris_fragment.specs.declared.held.Held.{Held}
 use Rattle.iris_fragment.specs.declared.held.Part.{Part}
 use Rattle.iris_fragment.specs.Held.{Nodes, Contents, held_at, is_held, stands, stands_above, has_place, cut}
 use Rattle.iris_fragment.specs.Changes.{with_node, without_node, replaced, with_part, with_part_in, has_child}
 use Rattle.iris_fragment.specs.Shape.{AreOrdered, IsRooted, HaveIdsOf, IsPartOf, ids_at}
-use Rattle.iris_fragment.proofs.Names.{name_exact, name_self, equal_from_is_eq, cut_joined}
+use Rattle.iris_fragment.proofs.Names.{alike_exact, name_exact, name_self, equal_from_is_eq, cut_joined}
 use Rattle.iris_fragment.proofs.Children.{child_found}
 
 -- ---- look-ups after a change
@@ -74,6 +74,31 @@ held-part_in nodes name part q (Some node) h =
 
 pub held-part : (nodes : Nodes) (name : List Label) (part : Part) (q : List Label) → is_held (with_part nodes name part) q ≡ is_held nodes q
 held-part nodes name part q = held-part_in nodes name part q (held_at nodes name) refl
+
+alike_at : (m n : List Label) → is_at (slice_cmp label_cmp m) n ≡ pointwise label_eq m n
+alike_at m n = sym (names_ties m n)
+
+pub look_up_put : (nodes : Nodes) (name other : List Label) (node : Held) → held_at (with_node nodes name node) other ≡ cond (pointwise label_eq name other) (Some node) (held_at nodes other)
+look_up_put nodes name other node =
+    held-with_node nodes name node other ∙ ap (λ (b : Bool). cond b (Some node) (held_at nodes other)) (alike_at other name ∙ names_equiv.symm other name)
+
+pub look_up_left_out : (nodes : Nodes) (name other : List Label) → AreOrdered nodes → held_at (without_node nodes name) other ≡ cond (pointwise label_eq name other) None (held_at nodes other)
+look_up_left_out nodes name other ordered = held-without nodes name other ordered ∙ ap (λ (b : Bool). cond b None (held_at nodes other)) (alike_at name other)
+
+replaced_in : (nodes : Nodes) (name other : List Label) (part : Part) (o : Option Held) → held_at nodes name ≡ o
+    → held_at (with_part_in o nodes name part) other ≡ cond (pointwise label_eq name other) (option_map (λ node. record { ids = node.ids; part = part }) o) (held_at nodes other)
+replaced_in nodes name other part None at = either _ refl
+  where
+    either : (b : Bool) → pointwise label_eq name other ≡ b → held_at nodes other ≡ cond b None (held_at nodes other)
+    either true same = subst (λ (n : List Label). held_at nodes n ≡ None) (alike_exact name other same) at
+    either false same = refl
+replaced_in nodes name other part (Some node) at =
+    held-replaced nodes name (record { ids = node.ids; part = part }) other (ap (λ (o : Option Held). is_some o) at)
+    ∙ ap (λ (b : Bool). cond b (Some (record { ids = node.ids; part = part })) (held_at nodes other)) (alike_at name other)
+
+pub look_up_replaced : (nodes : Nodes) (name other : List Label) (part : Part)
+    → held_at (with_part nodes name part) other ≡ cond (pointwise label_eq name other) (option_map (λ node. record { ids = node.ids; part = part }) (held_at nodes name)) (held_at nodes other)
+look_up_replaced nodes name other part = replaced_in nodes name other part (held_at nodes name) refl
 
 -- ---- names above held names
 

@@ -1,10 +1,10 @@
 -- Parts that stay as they are.
-use Rattle.std.proofs.Common.{◌≡◌, Bool, true, false, cond, if◌then◌else◌, List, [], ◌∷◌, ◌++◌, Option, Some, None, is_some, option_map, refl, sym, ap, ◌∙◌}
+use Rattle.std.proofs.Common.{◌≡◌, ℕ, map, Bool, true, false, cond, if◌then◌else◌, List, [], ◌∷◌, ◌++◌, Option, Some, None, is_some, option_map, refl, sym, ap, ◌∙◌}
 use Rattle.std.specs.declared.cmp.Ordering.{Ordering}
 use Rattle.std.specs.Ordering.{is_eq}
-use Rattle.std.specs.List.{list_any, filter_map}
+use Rattle.std.specs.List.{list_any, filter_map, cons_option}
 use Rattle.std.proofs.lemmas.List.Elements.{filter_map-append}
-use Rattle.std.specs.Map.{set_value}
+use Rattle.std.specs.Map.{set_value, keys_of}
 use Rattle.std.specs.BTreeMap.{is_at}
 use Rattle.std.specs.Cmp.Lexicographic.{slice_cmp}
 use Rattle.std.proofs.lemmas.Map.Steps.{set_value_same}
@@ -12,9 +12,13 @@ use Rattle.iris_base.specs.declared.name.Label.{Label}
 use Rattle.iris_base.specs.NameOrder.{label_eq, label_cmp}
 use Rattle.iris_fragment.specs.declared.held.Held.{Held}
 use Rattle.iris_fragment.specs.declared.held.Part.{Part}
+use Rattle.iris_fragment.specs.declared.held.Part.TheVariants.{Own, Copied, Bare}
 use Rattle.iris_fragment.specs.declared.piece.Full.{Full}
 use Rattle.iris_fragment.specs.declared.piece.Piece.{Piece}
 use Rattle.iris_fragment.specs.Held.{Nodes, Contents, held_at, is_held, has_place, is_listed, listed_above, listed_at}
+use Rattle.std.specs.Prelude.{option_and_then}
+use Rattle.iris_fragment.specs.declared.piece.Level.TheVariants as level
+use Rattle.iris_fragment.specs.Usable.{is_usable, piece_of, usable_piece}
 use Rattle.iris_fragment.specs.Changes.{replaced, with_part, with_part_in, part_in, takes_any, joined, taken, taken_at, changed, changed_in}
 use Rattle.iris_fragment.proofs.Names.{name_self, cut_last}
 use Rattle.iris_fragment.proofs.Kept.{held-replaced}
@@ -101,3 +105,25 @@ pub one_more_piece : (h : List Label × Held → Option Piece) (nodes : Nodes) (
 one_more_piece h nodes e pieces piece gives so_far =
     let last : filter_map h (e ∷ []) ≡ piece ∷ [] = rw gives refl in
     rw so_far (sym (filter_map-append h nodes (e ∷ []) ∙ ap (λ (ps : List Piece). filter_map h nodes ++ ps) last))
+
+named_piece : (floor now : ℕ) (e : List Label × Held) (part : Part) (full : Bool) → is_usable part level.Full floor ≡ full
+    → option_map (λ piece. piece.name) (option_and_then (λ level. piece_of e.0 (record { ids = e.1.ids; part = part }) level now) (if full then Some level.Full else Some level.Ids)) ≡ Some e.0
+named_piece floor now e (Own local version) true h = refl
+named_piece floor now e (Own local version) false h = refl
+named_piece floor now e (Copied full) true h = refl
+named_piece floor now e (Copied full) false h = refl
+named_piece floor now e Bare true h = absurd (cc)
+named_piece floor now e Bare false h = refl
+
+one_name_more : (o : Option Piece) (name : List Label) (pieces : List Piece) (names : List (List Label)) → option_map (λ piece. piece.name) o ≡ Some name → map (λ piece. piece.name) pieces ≡ names
+    → map (λ piece. piece.name) (cons_option o pieces) ≡ name ∷ names
+one_name_more None name pieces names h k = absurd (cc)
+one_name_more (Some piece) name pieces names h k =
+    let same : piece.name ≡ name = cc in
+    rw (same, k) refl
+
+-- each held node has a piece
+pub names_of_pieces : (floor now : ℕ) (nodes : Nodes) → map (λ piece. piece.name) (filter_map (usable_piece floor now) nodes) ≡ keys_of nodes
+names_of_pieces floor now [] = refl
+names_of_pieces floor now (e ∷ nodes) =
+    one_name_more (usable_piece floor now e) e.0 (filter_map (usable_piece floor now) nodes) (keys_of nodes) (named_piece floor now e e.1.part _ refl) (names_of_pieces floor now nodes)

@@ -1,7 +1,8 @@
 //! Fragments of a city's document.
-ghost use Rattle.std.specs.Prelude.{◌≡◌, ◌+◌, ◌<◌, ◌^◌, true, [], Some, IsSome, is_some, IsSomeAnd, IfOk, OnOk, OnErr};
+ghost use Rattle.std.specs.Prelude.{◌≡◌, ◌+◌, ◌<◌, ◌^◌, true, [], Some, IsSome, is_some, IsSomeAnd, map, IfOk, OnOk, OnErr};
 ghost use Rattle.std.specs.Prelude.{if◌then◌else◌};
 ghost use Rattle.std.specs.List.{list_any};
+ghost use Rattle.std.specs.Map.{keys_of};
 ghost use Rattle.iris_base.specs.NameOrder.{label_eq};
 ghost use Rattle.iris_tree.specs.Universe.{Node, label_of};
 ghost use Rattle.iris_fragment.specs.declared.status.Status.TheVariants as standing;
@@ -130,7 +131,8 @@ impl Fragment {
     /// The piece of each node that is usable at some level for that floor, at the greater such level, in
     /// the order of names. An owned value is stamped with the present moment `now`.
     pub fn usable_pieces(&self, floor: u64, now: u64) -> Mem<Vec<Piece>>
-        ensures { IfOk result (λ pieces. pieces.items ≡ usable_pieces self.now floor now) }
+        ensures pieces { IfOk result (λ pieces. pieces.items ≡ usable_pieces self.now floor now) }
+        ensures names { IfOk result (λ pieces. map (λ piece. piece.name) pieces.items ≡ keys_of self.now.nodes) }
     {
         let mut pieces = Vec::new(self.alloc);
         for (name, node) in self.nodes.as_map().iter() {

@@ -5,6 +5,7 @@
 mod error;
 mod fragment;
 mod held;
+mod laws;
 mod nodes;
 mod piece;
 mod status;
@@ -13,5 +14,6 @@ mod tests;
 
 pub use error::EvictError;
 pub use fragment::Fragment;
+pub use laws::look_ups;
 pub use piece::{Full, Level, Piece};
 pub use status::Status;

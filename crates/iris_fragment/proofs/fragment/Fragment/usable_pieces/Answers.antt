@@ -1,12 +1,14 @@
 use Rattle.std.proofs.Common.{◌≡◌, ◌∙◌, sym, ap, rules, List, [], ◌∷◌, ◌++◌, map, filter_map, Some}
 use Rattle.std.specs.Map.Iter.{deref_pair}
 use Rattle.std.proofs.lemmas.List.{map-append}
+use Rattle.std.proofs.lemmas.Map.Iter.{iter_end}
+use Rattle.iris_fragment.specs.declared.piece.Piece.{Piece}
 use Rattle.iris_base.specs.declared.name.Label.{Label}
 use Rattle.iris_fragment.specs.declared.held.Held.{Held}
 use Rattle.iris_fragment.specs.Held.{Nodes}
 use Rattle.iris_fragment.specs.Stored.{named}
-use Rattle.iris_fragment.specs.Usable.{usable_piece}
-use Rattle.iris_fragment.proofs.Parts.{one_more_piece}
+use Rattle.iris_fragment.specs.Usable.{usable_piece, usable_pieces}
+use Rattle.iris_fragment.proofs.Parts.{one_more_piece, names_of_pieces}
 use Rattle.iris_fragment.proofs.fragment.Fragment.usable_pieces.Goals as goal
 
 pub loop-name-preserved-in-Continue-branch-3 : goal.loop-name-preserved-in-Continue-branch-3
@@ -17,3 +19,8 @@ loop-name-preserved-in-Continue-branch-3 c =
     let more : named (map deref_pair (c.loop-name.yielded ++ (c.in-Some.name, c.in-Some.node) ∷ [])) ≡ so_far ++ node ∷ [] = simp map-append in
     c.in_ok-push.ensures.items ∙ one_more_piece (usable_piece c.args.floor c.args.now) so_far node c.loop-name.pieces.items c.in-Some-2.piece gives c.loop-name.invariant
     ∙ ap (λ (ns : Nodes). filter_map (usable_piece c.args.floor c.args.now) ns) (sym more)
+
+pub returns-clause-names : goal.returns-clause-names
+returns-clause-names c =
+    let all : c.loop-name.pieces.items ≡ usable_pieces c.args.self.now c.args.floor c.args.now = search (rules, iter_end) in
+    ap (λ (ps : List Piece). map (λ piece. piece.name) ps) all ∙ names_of_pieces c.args.floor c.args.now c.args.self.now.nodes
