@@ -4,3 +4,4 @@ pub mod Children
 pub mod Parts
 pub mod Kept
 pub mod Cities
+pub mod Taking

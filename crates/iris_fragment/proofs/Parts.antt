@@ -16,7 +16,7 @@ use Rattle.iris_fragment.specs.declared.held.Part.TheVariants.{Own, Copied, Bare
 use Rattle.iris_fragment.specs.declared.piece.Full.{Full}
 use Rattle.iris_fragment.specs.declared.piece.Piece.{Piece}
 use Rattle.iris_fragment.specs.Held.{Nodes, Contents, held_at, is_held, has_place, is_listed, listed_above, listed_at}
-use Rattle.std.specs.Prelude.{option_and_then}
+use Rattle.std.specs.Prelude.{option_and_then, option_to_list}
 use Rattle.iris_fragment.specs.declared.piece.Level.TheVariants as level
 use Rattle.iris_fragment.specs.Usable.{is_usable, piece_of, usable_piece}
 use Rattle.iris_fragment.specs.Changes.{replaced, with_part, with_part_in, part_in, takes_any, joined, taken, taken_at, changed, changed_in}
@@ -45,7 +45,7 @@ not_placed nodes name o h = sym (same_part nodes name) ∙ ap (λ (part : Part).
 pub listed_last : (f : Contents) (above : List Label) (label : Label) → is_listed f (above ++ label ∷ []) ≡ list_any (λ listed. label_eq listed label) (listed_at f above)
 listed_last f above label = ap (listed_above f) (cut_last above label)
 
-taken_at_held : (o : Option Held) (nodes : Nodes) (piece : Piece) → is_some o ≡ true → taken_at o nodes piece ≡ with_part nodes piece.name (joined (part_in o) piece.full)
+pub taken_at_held : (o : Option Held) (nodes : Nodes) (piece : Piece) → is_some o ≡ true → taken_at o nodes piece ≡ with_part nodes piece.name (joined (part_in o) piece.full)
 taken_at_held None nodes piece h = absurd (cc)
 taken_at_held (Some node) nodes piece h = refl
 
@@ -99,11 +99,15 @@ changed_part change top old new now name part is was after =
 
 -- ---- pieces
 
--- one more piece of a usable node
-pub one_more_piece : (h : List Label × Held → Option Piece) (nodes : Nodes) (e : List Label × Held) (pieces : List Piece) (piece : Piece) → h e ≡ Some piece → pieces ≡ filter_map h nodes
-    → pieces ++ piece ∷ [] ≡ filter_map h (nodes ++ e ∷ [])
-one_more_piece h nodes e pieces piece gives so_far =
-    let last : filter_map h (e ∷ []) ≡ piece ∷ [] = rw gives refl in
+last_piece : (o : Option Piece) → cons_option o [] ≡ option_to_list o
+last_piece None = refl
+last_piece (Some piece) = refl
+
+-- one more node, whose piece is added, if it has one
+pub one_more_piece : (h : List Label × Held → Option Piece) (nodes : Nodes) (e : List Label × Held) (pieces : List Piece) (o : Option Piece) → o ≡ h e → pieces ≡ filter_map h nodes
+    → pieces ++ option_to_list o ≡ filter_map h (nodes ++ e ∷ [])
+one_more_piece h nodes e pieces o is so_far =
+    let last : filter_map h (e ∷ []) ≡ option_to_list o = rw (← is) (last_piece o) in
     rw so_far (sym (filter_map-append h nodes (e ∷ []) ∙ ap (λ (ps : List Piece). filter_map h nodes ++ ps) last))
 
 named_piece : (floor now : ℕ) (e : List Label × Held) (part : Part) (full : Bool) → is_usable part level.Full floor ≡ full

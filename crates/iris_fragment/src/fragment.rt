@@ -1,5 +1,5 @@
 //! Fragments of a city's document.
-ghost use Rattle.std.specs.Prelude.{◌≡◌, ◌+◌, ◌<◌, ◌^◌, true, [], Some, IsSome, is_some, IsSomeAnd, map, IfOk, OnOk, OnErr};
+ghost use Rattle.std.specs.Prelude.{◌≡◌, ◌+◌, ◌<◌, ◌^◌, true, [], Some, IsSome, is_some, IsSomeAnd, map, ◌++◌, option_to_list, IfOk, OnOk, OnErr};
 ghost use Rattle.std.specs.Prelude.{if◌then◌else◌};
 ghost use Rattle.std.specs.List.{list_any};
 ghost use Rattle.std.specs.Map.{keys_of};
@@ -45,6 +45,16 @@ impl Model for Fragment {
     ghost view = { λ f. record { top = f.top; nodes = f.nodes } };
 
     ghost invariant = { λ f. IsRooted f.nodes };
+}
+
+// Adds a piece, where there is one.
+fn add(pieces: &mut Vec<Piece>, piece: Option<Piece>) -> Mem<()>
+    ensures { OnOk result (pieces.new.items ≡ pieces.old.items ++ option_to_list piece) }
+{
+    if let Some(piece) = piece {
+        pieces.push(piece)?;
+    }
+    Ok(())
 }
 
 impl Fragment {
@@ -136,9 +146,8 @@ impl Fragment {
     {
         let mut pieces = Vec::new(self.alloc);
         for (name, node) in self.nodes.as_map().iter() {
-            if let Some(piece) = node.usable_piece(self.alloc, name.as_slice(), floor, now)? {
-                pieces.push(piece)?;
-            }
+            let piece = node.usable_piece(self.alloc, name.as_slice(), floor, now)?;
+            add(&mut pieces, piece)?;
         }
         Ok(pieces)
     }

@@ -1,12 +1,15 @@
-//! What is held after a change, name by name.
-ghost use Rattle.std.specs.Prelude.{◌≡◌, List, Some, None, option_map, if◌then◌else◌};
+//! What the changes of a fragment come to.
+ghost use Rattle.std.specs.Prelude.{◌≡◌, ℕ, true, false, List, Some, None, option_map, if◌then◌else◌};
 ghost use Rattle.std.specs.Cmp.Lexicographic.{pointwise};
 ghost use Rattle.iris_base.specs.declared.name.Label.{Label};
 ghost use Rattle.iris_base.specs.NameOrder.{label_eq};
 ghost use Rattle.iris_fragment.specs.declared.held.Held.{Held};
 ghost use Rattle.iris_fragment.specs.declared.held.Part.{Part};
-ghost use Rattle.iris_fragment.specs.Held.{Nodes, held_at};
-ghost use Rattle.iris_fragment.specs.Changes.{with_node, without_node, with_part};
+ghost use Rattle.iris_fragment.specs.declared.piece.Piece.{Piece};
+ghost use Rattle.iris_fragment.specs.declared.status.Status.TheVariants as standing;
+ghost use Rattle.iris_fragment.specs.Held.{Nodes, Contents, held_at, is_held, has_place, status};
+ghost use Rattle.iris_fragment.specs.Usable.{full_of};
+ghost use Rattle.iris_fragment.specs.Changes.{with_node, without_node, with_part, part_in, taken, places};
 ghost use Rattle.iris_fragment.specs.Shape.{AreOrdered};
 
 /// All changes of a fragment are made of three: a node put under a name, a node left out, and another part
@@ -20,4 +23,27 @@ pub fn look_ups()
         → held_at (without_node nodes name) other ≡ (if pointwise label_eq name other then None else held_at nodes other) }
     ensures replaced { (nodes : Nodes) (name other : List Label) (part : Part)
         → held_at (with_part nodes name part) other ≡ (if pointwise label_eq name other then option_map (λ node. record { ids = node.ids; part = part }) (held_at nodes name) else held_at nodes other) }
+{}
+
+/// What `take_in` comes to. A piece whose parent is neither held nor the document changes nothing; of every
+/// other the node is held then. An owned node stays as it is, whatever piece is taken in. Where a full part
+/// is placed, it is the one that is held then, and where none is placed, a fragment that holds the node
+/// stays as it is. This call does nothing.
+pub fn taking_in()
+    ensures skipped { (f : Contents) (piece : Piece)
+        → has_place f.nodes piece.name ≡ false
+        → taken f piece ≡ f }
+    ensures held { (f : Contents) (piece : Piece)
+        → has_place f.nodes piece.name ≡ true
+        → is_held (taken f piece).nodes piece.name ≡ true }
+    ensures owned { (f : Contents) (piece : Piece) (name : List Label)
+        → status f name ≡ Some standing.Owned
+        → held_at (taken f piece).nodes name ≡ held_at f.nodes name }
+    ensures placed { (f : Contents) (piece : Piece) (now : ℕ)
+        → places f piece ≡ true
+        → full_of (part_in (held_at (taken f piece).nodes piece.name)) now ≡ piece.full }
+    ensures stays { (f : Contents) (piece : Piece)
+        → is_held f.nodes piece.name ≡ true
+        → places f piece ≡ false
+        → taken f piece ≡ f }
 {}

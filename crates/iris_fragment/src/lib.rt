@@ -14,6 +14,6 @@ mod tests;
 
 pub use error::EvictError;
 pub use fragment::Fragment;
-pub use laws::look_ups;
+pub use laws::{look_ups, taking_in};
 pub use piece::{Full, Level, Piece};
 pub use status::Status;

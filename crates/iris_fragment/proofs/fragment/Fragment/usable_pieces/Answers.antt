@@ -1,4 +1,4 @@
-use Rattle.std.proofs.Common.{◌≡◌, ◌∙◌, sym, ap, rules, List, [], ◌∷◌, ◌++◌, map, filter_map, Some}
+use Rattle.std.proofs.Common.{◌≡◌, ◌∙◌, sym, ap, rules, List, [], ◌∷◌, ◌++◌, map, filter_map}
 use Rattle.std.specs.Map.Iter.{deref_pair}
 use Rattle.std.proofs.lemmas.List.{map-append}
 use Rattle.std.proofs.lemmas.Map.Iter.{iter_end}
@@ -11,14 +11,14 @@ use Rattle.iris_fragment.specs.Usable.{usable_piece, usable_pieces}
 use Rattle.iris_fragment.proofs.Parts.{one_more_piece, names_of_pieces}
 use Rattle.iris_fragment.proofs.fragment.Fragment.usable_pieces.Goals as goal
 
-pub loop-name-preserved-in-Continue-branch-3 : goal.loop-name-preserved-in-Continue-branch-3
-loop-name-preserved-in-Continue-branch-3 c =
+pub loop-name-preserved : goal.loop-name-preserved
+loop-name-preserved c =
+    let h = usable_piece c.args.floor c.args.now in
     let node : List Label × Held = (c.in-Some.name.now.items, c.in-Some.node.now) in
-    let gives : usable_piece c.args.floor c.args.now node ≡ Some c.in-Some-2.piece = search rules in
     let so_far = named (map deref_pair c.loop-name.yielded) in
     let more : named (map deref_pair (c.loop-name.yielded ++ (c.in-Some.name, c.in-Some.node) ∷ [])) ≡ so_far ++ node ∷ [] = simp map-append in
-    c.in_ok-push.ensures.items ∙ one_more_piece (usable_piece c.args.floor c.args.now) so_far node c.loop-name.pieces.items c.in-Some-2.piece gives c.loop-name.invariant
-    ∙ ap (λ (ns : Nodes). filter_map (usable_piece c.args.floor c.args.now) ns) (sym more)
+    let gives : c.in_ok-piece.piece ≡ usable_piece c.args.floor c.args.now node = search rules in
+    c.in_ok-add.ensures ∙ one_more_piece h so_far node c.loop-name.pieces.items c.in_ok-piece.piece gives c.loop-name.invariant ∙ ap (λ (ns : Nodes). filter_map h ns) (sym more)
 
 pub returns-clause-names : goal.returns-clause-names
 returns-clause-names c =
