@@ -30,6 +30,11 @@ put_here nodes name part old at =
     ∙ ap (λ (b : Bool). cond b (option_map (λ node. record { ids = node.ids; part = part }) (held_at nodes name)) (held_at nodes name)) (alike_self name)
     ∙ ap (λ (o : Option Held). option_map (λ (node : Held). record { ids = node.ids; part = part }) o) at
 
+put_back : (nodes : Nodes) (m name : List Label) (part : Part) (old node : Held) → m ≡ name → held_at nodes m ≡ Some old → old ≡ node → part ≡ old.part → held_at (with_part nodes m part) name ≡ Some node
+put_back nodes m name part old node is at one stays =
+    subst (λ (n : List Label). held_at (with_part nodes m part) n ≡ Some node) is
+    (put_here nodes m part old at ∙ ap (λ (p : Part). Some (record { ids = old.ids; part = p })) stays ∙ ap (λ (n : Held). Some n) one)
+
 here_at : (nodes : Nodes) (piece : Piece) (o : Option Held) → held_at nodes piece.name ≡ o
     → (node : Held) × (held_at (taken_at o nodes piece) piece.name ≡ Some node) × (node.part ≡ joined (part_in o) piece.full)
 here_at nodes piece None at =
@@ -101,9 +106,7 @@ owned_at nodes piece name node held own (Some old) at true same =
     let is = alike_exact piece.name name same in
     let one : old ≡ node = (let e = sym (subst (λ (n : List Label). held_at nodes n ≡ Some old) is at) ∙ held in cc) in
     let stays : joined old.part piece.full ≡ old.part = is_own old.part piece.full (ap (λ (n : Held). status_of n.part) one ∙ own) in
-    let put = put_here nodes piece.name (joined old.part piece.full) old at in
-    let there = subst (λ (n : List Label). held_at (with_part nodes piece.name (joined old.part piece.full)) n ≡ Some (record { ids = old.ids; part = joined old.part piece.full })) is put in
-    there ∙ ap (λ (p : Part). Some (record { ids = old.ids; part = p })) stays ∙ ap (λ (n : Held). Some n) one ∙ sym held
+    put_back nodes piece.name name (joined old.part piece.full) old node is at one stays ∙ sym held
 
 -- an owned node stays, whatever piece is taken in
 pub owned_stays : (f : Contents) (piece : Piece) (name : List Label) → status f name ≡ Some Owned → held_at (taken f piece).nodes name ≡ held_at f.nodes name
