@@ -1,4 +1,5 @@
 pub mod AttrLookups
 pub mod Counted
+pub mod LocalsPut
 pub mod Siblings
 pub mod Texts

@@ -18,10 +18,10 @@ list_of-nodes_of (n ∷ ns) = ap (λ (ms : List Node). n ∷ ms) (list_of-nodes_
 
 -- ---- the order of labels
 
-not_equal : (a b : Label) → label_cmp a b ≡ Less → label_eq a b ≡ false
+pub not_equal : (a b : Label) → label_cmp a b ≡ Less → label_eq a b ≡ false
 not_equal a b less = labels_ties a b ∙ ap is_eq less
 
-greater : (a b : Label) → label_cmp a b ≡ Less → label_cmp b a ≡ Greater
+pub greater : (a b : Label) → label_cmp a b ≡ Less → label_cmp b a ≡ Greater
 greater a b less = labels_total.antisymm b a ∙ ap ordering_reverse less
 
 less : (a b : Label) → label_cmp a b ≡ Greater → label_cmp b a ≡ Less
@@ -72,7 +72,7 @@ comparisons_rise ns x sorted i j d le within = at (cases_lt i j)
 equal_label : (a b : Label) → label_cmp a b ≡ Equal → label_eq a b ≡ true
 equal_label a b same = labels_ties a b ∙ ap is_eq same
 
-unequal_label : (a b : Label) → label_cmp a b ≡ Greater → label_eq a b ≡ false
+pub unequal_label : (a b : Label) → label_cmp a b ≡ Greater → label_eq a b ≡ false
 unequal_label a b more = labels_ties a b ∙ ap is_eq more
 
 later_label : (n : Node) (ns : List Node) (i : ℕ) (d : Node) → AllByRecursion (λ l. label_cmp (label_of n) l ≡ Less) (labels_of ns) → i < length ns → label_cmp (label_of n) (label_of (get_or ns i d)) ≡ Less

@@ -1,6 +1,7 @@
 -- A document: the top node of a city with all below it, and the places in it, as XPath sees them.
 use Rattle.std.specs.Prelude.{ℕ, ◌+◌, List, [], ◌∷◌, ◌++◌, map, Option, Some, None, option_map, option_and_then, slice_get, if◌then◌else◌}
 use Rattle.iris_base.specs.declared.name.Label.{Label}
+use Rattle.std.specs.Cmp.Lexicographic.{pointwise}
 use Rattle.iris_base.specs.NameOrder.{label_eq}
 use Rattle.iris_tree.specs.declared.local.Local.{Local}
 use Rattle.iris_tree.specs.declared.plain.Plain.{Plain}
@@ -21,6 +22,25 @@ abbrev mutual
   pub all_names_of : Nodes → List (List Label)
   all_names_of no_nodes = []
   all_names_of (nodes n ns) = names_of n ++ all_names_of ns
+
+-- ---- other values
+
+-- a document with other local information: at each name what f gives for the name and for what was there
+abbrev mutual
+  pub with_locals : Node → (List Label → Local → Local) → Node
+  with_locals (node label local below) f = node label (f (label ∷ []) local) (all_with_locals below (λ name. f (label ∷ name)))
+
+  pub all_with_locals : Nodes → (List Label → Local → Local) → Nodes
+  all_with_locals no_nodes f = no_nodes
+  all_with_locals (nodes n ns) f = nodes (with_locals n f) (all_with_locals ns f)
+
+-- that local information for that name, and for any other what was there
+abbrev pub local_put : List Label → Local → List Label → Local → Local
+local_put name local other old = if pointwise label_eq other name then local else old
+
+-- the document with that local information at that name, and elsewhere what was there
+abbrev pub with_local : Node → List Label → Local → Node
+with_local document name local = with_locals document (local_put name local)
 
 -- ---- places
 

@@ -1,6 +1,7 @@
 pub mod Attrs
 pub mod Changes
 pub mod Document
+pub mod LocalPut
 pub mod LocalText
 pub mod Messages
 pub mod NodeCode

@@ -1,9 +1,11 @@
 //! Nodes with all nodes below them.
-ghost use Rattle.std.specs.Prelude.{◌≡◌, ◌↔◌, ◌<◌, ◌≤◌, Some, None, IsSome, IfOk, IfErr, OnOk, OnErr, IsErrOf, length, option_copied, slice_index_or};
+ghost use Rattle.std.specs.Prelude.{◌≡◌, ◌↔◌, ◌<◌, ◌≤◌, false, Some, None, IsSome, IfOk, IfErr, OnOk, OnErr, IsErrOf, is_some, length, option_copied, slice_index_or};
 ghost use Rattle.std.specs.List.Sorted.{IsStrictlySortedBy};
 ghost use Rattle.iris_base.specs.NameOrder.{label_cmp};
 ghost use Rattle.iris_tree.specs.declared.tree.InsertError.TheVariants as errors;
-ghost use Rattle.iris_tree.specs.Universe.{Node, node, no_nodes, labels_of, IsGap, IsOrdered, label_of, local_of, children_of, child_of, node_at, with_child};
+ghost use Rattle.iris_tree.specs.Universe.{Node, node, no_nodes, labels_of, IsGap, IsOrdered, label_of, local_of, children_of, child_of, part_at, node_at, with_child};
+ghost use Rattle.iris_tree.specs.Document.{with_local};
+ghost use Rattle.iris_tree.specs.LocalPut.{put_below};
 
 use crate::local::Local;
 use iris_base::{Label, Mem, Memory, Name};
@@ -151,6 +153,39 @@ impl Tree {
             node = node.child(label)?;
         }
         Some(node)
+    }
+
+    /// Puts that local information at the node of that name, in the place of what is there. Whether there
+    /// is such a node. It takes no memory.
+    pub fn set_local(&mut self, name: &Name, local: Local) -> bool
+        ensures found { result ≡ is_some (node_at self.old name.now) }
+        ensures put { self.new ≡ with_local self.old name.now local }
+        ensures absent { result ≡ false → self.new ≡ self.old }
+    {
+        let Some((label, below)) = name.as_slice().split_first() else {
+            return false;
+        };
+        if self.label != *label {
+            return false;
+        }
+        self.set_local_below(below, local)
+    }
+
+    // The same at the part below by these labels.
+    fn set_local_below(&mut self, below: &[Label], local: Local) -> bool
+        ensures found { result ≡ is_some (part_at self.old below.now) }
+        ensures put { self.new ≡ put_below self.old below.now local }
+        ensures absent { result ≡ false → self.new ≡ self.old }
+    {
+        let Some((label, rest)) = below.split_first() else {
+            self.local = local;
+            return true;
+        };
+        let Ok(at) = search(&self.nodes, label) else {
+            return false;
+        };
+        let child = &mut self.nodes[at];
+        child.set_local_below(rest, local)
     }
 
     /// A copy, by the same allocator.
