@@ -17,7 +17,7 @@ mod tests_read;
 pub use city::{City, CityError, CityWhy};
 pub use city_line::read_city;
 pub use city_text::write_city;
+pub use iris_tree::Cite;
 pub use item::{Element, Item, write_items, write_tree};
 pub use line::{Line, LineError, LineWhy, read_line};
-pub use iris_tree::Cite;
 pub use out::{Out, Which, Why, write_out};
