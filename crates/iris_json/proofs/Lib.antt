@@ -1,4 +1,5 @@
 pub mod AttrReading
+pub mod ChangeReading
 pub mod CityReading
 pub mod CityNodes
 pub mod CityWriting

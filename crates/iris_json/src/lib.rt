@@ -1,6 +1,7 @@
 //! The lines of a script, read, and the lines of its run, written, as JSON (RFC 8259).
 #![tactic(auto)]
 
+mod changes;
 mod city;
 mod city_line;
 mod city_text;
@@ -11,6 +12,8 @@ mod node;
 mod out;
 #[cfg(test)]
 mod tests;
+#[cfg(test)]
+mod tests_lines;
 #[cfg(test)]
 mod tests_read;
 

@@ -2,16 +2,10 @@
 
 use crate::city::{CityError, CityWhy};
 use crate::city_line::read_city;
-use crate::city_text::write_city;
-use crate::line::{Line, LineError, LineWhy, read_line};
 use iris_tree::{Id, Kind, Label, Name, Tree};
 use std::alloc::{AllocError, Global};
 use std::str;
 use std::test::Fail;
-
-const BAD_LINE: LineError = LineError::BadLine {
-    why: LineWhy::Shape,
-};
 
 const CITY: &str =
     r#"{"kinds":["city","hood","block","space"],"agents":["a"],"place":[["city-o","a"]],"tree":{"kind":"city","id":"o","nodes":[{"kind":"hood","id":"n","nodes":[{"kind":"block","id":"1","nodes":[{"kind":"space","id":"1","attrs":{"free":"no"}},{"kind":"space","id":"2","attrs":{"free":"yes"}},{"kind":"space","id":"3","attrs":{"free":"no"}}]}]}]}}"#;
@@ -56,55 +50,6 @@ fn a_city(rt: HostRuntime) -> Result<(), Fail> {
     assert_eq!(rt; free(alloc, &city.tree, "1")?, Some("no"));
     assert_eq!(rt; free(alloc, &city.tree, "2")?, Some("yes"));
     assert_eq!(rt; free(alloc, &city.tree, "4")?, None);
-    Ok(())
-}
-
-#[test]
-fn both_lines(rt: HostRuntime) -> Result<(), Fail> {
-    let alloc = rt.alloc();
-    match read_line(alloc, br#"{"query":"/city[@id='o']","do":"query"}"#)? {
-        Line::Query { query } => assert_eq!(rt; query.as_str(), "/city[@id='o']"),
-        Line::Settle => assert!(rt; false),
-    }
-    let settles: [&[u8]; 4] = [
-        br#"{"do":"settle"}"#,
-        br#" { "do" : "settle" } "#,
-        br#"{"do":"x","do":"settle"}"#,
-        br#"{"d\u006f":"settle"}"#,
-    ];
-    for line in settles {
-        assert!(rt; matches!(read_line(alloc, line)?, Line::Settle));
-    }
-    Ok(())
-}
-
-#[test]
-fn no_lines(rt: HostRuntime) -> Result<(), Fail> {
-    let alloc = rt.alloc();
-    let nested = Vec::from_elem(alloc, b'[', 200)?;
-    let table: [&[u8]; 15] = [
-        b"",
-        b"null",
-        b"[]",
-        br#""settle""#,
-        br#"{}"#,
-        br#"{"do":null}"#,
-        br#"{"do":"x"}"#,
-        br#"{"do":"bound"}"#,
-        br#"{"do":"query"}"#,
-        br#"{"query":"/city"}"#,
-        br#"{"do":"settle","query":"/city"}"#,
-        br#"{"do":"query","query":"/city","to":"a"}"#,
-        br#"{"do":"query","query":1}"#,
-        b"{\"do\":\"settle\xff\"}",
-        nested.as_slice(),
-    ];
-    for (at, line) in table.iter().enumerate() {
-        match read_line(alloc, line) {
-            Err(error) => assert_eq!(rt; error, BAD_LINE, "at {at}"),
-            Ok(_) => assert!(rt; false, "at {at}"),
-        }
-    }
     Ok(())
 }
 
