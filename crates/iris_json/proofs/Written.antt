@@ -100,3 +100,9 @@ pub answer_written : (answer : List Item) (cites : List Cite) (newest : Bool) (r
     ++ (Token.key (codes "newest") ∷ Token.boolean newest ∷ Token.key (codes "request") ∷ Token.number (decimal request) ∷ Token.end_object ∷ []))))
 unfolding value_tokens
 answer_written answer cites newest request = refl
+
+-- an audit
+pub audit_written : (audit : List Item) (request : ℕ) → value_tokens (out_data (Out.Audit audit request))
+    ≡ Token.begin_object ∷ Token.key (codes "audit") ∷ (value_tokens (items_data audit) ++ (Token.key (codes "request") ∷ Token.number (decimal request) ∷ Token.end_object ∷ []))
+unfolding value_tokens
+audit_written audit request = refl

@@ -102,6 +102,27 @@ fn lists_of_items(rt: HostRuntime) -> Result<(), Fail> {
 }
 
 #[test]
+fn audits(rt: HostRuntime) -> Result<(), Fail> {
+    let alloc = rt.alloc();
+    let audit = Out::Audit {
+        audit: items(alloc)?,
+        request: 3,
+    };
+    let text = write_out(alloc, &audit)?;
+    let expected = format!(in alloc; "{{\"audit\":{ITEMS},\"request\":3}}")?;
+    assert_eq!(rt; str::from_utf8(&text)?, expected.as_str());
+    let none = Out::Audit {
+        audit: Sequence::new(alloc),
+        request: 0,
+    };
+    assert_eq!(rt;
+        str::from_utf8(&write_out(alloc, &none)?)?,
+        r#"{"audit":[],"request":0}"#
+    );
+    Ok(())
+}
+
+#[test]
 fn answers(rt: HostRuntime) -> Result<(), Fail> {
     let alloc = rt.alloc();
     let mut cites = Sequence::new(alloc);
@@ -145,38 +166,83 @@ fn other_lines(rt: HostRuntime) -> Result<(), Fail> {
             },
             r#"{"kind":"query","post":0,"request":0,"to":"a"}"#,
         ),
+        (
+            Out::Update {
+                post: 1,
+                request: 2,
+                to,
+            },
+            r#"{"kind":"update","post":1,"request":2,"to":"a"}"#,
+        ),
+        (
+            Out::Accepted {
+                accepted: 1,
+                request: 0,
+            },
+            r#"{"accepted":1,"request":0}"#,
+        ),
+        (
+            Out::BackInTime { now: 7 },
+            r#"{"now":7,"refused":"back in time"}"#,
+        ),
+        (
+            Out::NoSuchNode { request: 5 },
+            r#"{"refused":"no such node","request":5}"#,
+        ),
+        (
+            Out::Old {
+                last: 3,
+                request: 1,
+            },
+            r#"{"last":3,"refused":"old","request":1}"#,
+        ),
+        (
+            Out::BadChange { at: 0, request: 4 },
+            r#"{"at":0,"refused":"bad change","request":4}"#,
+        ),
         (Out::Settled { settled: 1 }, r#"{"settled":1}"#),
-        (
-            Out::Ended {
-                line: 1,
-                why: Why::Empty,
-            },
-            r#"{"ended":3,"line":1,"why":"empty"}"#,
-        ),
-        (
-            Out::Ended {
-                line: 2,
-                why: Why::Truncated,
-            },
-            r#"{"ended":3,"line":2,"why":"truncated"}"#,
-        ),
-        (
-            Out::Ended {
-                line: 3,
-                why: Why::Shape,
-            },
-            r#"{"ended":3,"line":3,"why":"shape"}"#,
-        ),
-        (
-            Out::Limit {
-                count: 268435457,
-                which: Which::Script,
-            },
-            r#"{"count":268435457,"ended":7,"which":"script"}"#,
-        ),
     ];
     for (line, text) in &table {
         assert_eq!(rt; str::from_utf8(&write_out(alloc, line)?)?, *text);
+    }
+    Ok(())
+}
+
+#[test]
+fn last_lines(rt: HostRuntime) -> Result<(), Fail> {
+    let alloc = rt.alloc();
+    let words = [
+        (Why::Empty, "empty"),
+        (Why::Truncated, "truncated"),
+        (Why::NotJson, "not-json"),
+        (Why::Shape, "shape"),
+        (Why::Name, "name"),
+        (Why::Number, "number"),
+        (Why::Change, "change"),
+    ];
+    for (why, word) in words {
+        let text = write_out(alloc, &Out::Ended { line: 12, why })?;
+        let expected = format!(in alloc; "{{\"ended\":3,\"line\":12,\"why\":\"{word}\"}}")?;
+        assert_eq!(rt; str::from_utf8(&text)?, expected.as_str());
+    }
+    let limits = [
+        (Which::Line, "line"),
+        (Which::Script, "script"),
+        (Which::Lines, "lines"),
+        (Which::Nodes, "nodes"),
+        (Which::Depth, "depth"),
+        (Which::Children, "children"),
+        (Which::Attributes, "attributes"),
+        (Which::Local, "local"),
+    ];
+    for (which, word) in limits {
+        let limit = Out::Limit {
+            count: 16_385,
+            which,
+        };
+        let text = write_out(alloc, &limit)?;
+        let expected = format!(in alloc; "{{\"count\":16385,\"ended\":7,\"which\":\"{word}\"}}")?;
+        assert_eq!(rt; str::from_utf8(&text)?, expected.as_str());
     }
     Ok(())
 }
