@@ -1,0 +1,9 @@
+pub mod Entering
+pub mod Laws
+pub mod Linked
+pub mod Logged
+pub mod Moments
+pub mod Named
+pub mod Newest
+pub mod Pushed
+pub mod Values

@@ -1,0 +1,25 @@
+-- What the parts of a book keep to.
+use Rattle.std.specs.Prelude.{◌≡◌, ℕ, ◌≤◌, not, List, length, filter, sum_by}
+use Rattle.iris_tree.specs.Universe.{Node}
+use Rattle.iris_tree.specs.TextLen.{saturated}
+use Rattle.iris_book.specs.declared.entry.Entry.{Entry}
+use Rattle.iris_book.specs.declared.log.Slot.{Slot}
+use Rattle.iris_book.specs.Book.{Updates, AreSound, weight}
+use Rattle.iris_book.specs.Change.{is_lasting}
+use Rattle.iris_book.specs.Log.{entries_of, is_update}
+use Rattle.iris_book.specs.Lines.{Accepted}
+
+-- what the entries that last weigh together, and what the answers do
+abbrev pub lasting_weight : List Entry → ℕ
+lasting_weight entries = saturated (sum_by weight (filter is_lasting entries))
+
+abbrev pub answered_weight : List Entry → ℕ
+answered_weight entries = saturated (sum_by weight (filter (λ e. not (is_lasting e)) entries))
+
+pub record IsKept (start : Node) (lines : Accepted) (slots : List Slot) (slot_room lasting answered spare : ℕ) : Type 0 where
+  pub sound : AreSound start lines.updates
+  pub counted : length (filter is_update slots) ≡ length lines.updates
+  pub lasting_is : lasting ≡ lasting_weight (entries_of slots lines.updates)
+  pub answered_is : answered ≡ answered_weight (entries_of slots lines.updates)
+  pub line_room : spare ≤ lines.spare
+  pub log_room : spare ≤ slot_room

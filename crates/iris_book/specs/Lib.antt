@@ -1,0 +1,5 @@
+pub mod Book
+pub mod Change
+pub mod Kept
+pub mod Lines
+pub mod Log

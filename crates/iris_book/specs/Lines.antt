@@ -1,0 +1,62 @@
+-- How the updates of nodes lie: in one list, each linked to earlier ones of its node.
+use Rattle.std.specs.Prelude.{◌≡◌, ℕ, ◌+◌, ◌-◌, ◌<◌, ◌≤◌, ◌==◌, min, List, [], ◌∷◌, length, take, map, filter, slice_index, slice_index_or, refl}
+use Rattle.std.specs.Coded.{Coded, code_by, coded×, coded_ℕ, coded_list}
+use Rattle.std.specs.List.{IsDistinct}
+use Rattle.std.specs.Cmp.Lexicographic.{pointwise}
+use Rattle.iris_base.specs.declared.name.Label.{Label}
+use Rattle.iris_base.specs.NameOrder.{label_eq}
+use Rattle.iris_book.specs.declared.update.Update.{Update}
+use Rattle.iris_book.specs.declared.lines.Entered.{Entered}
+use Rattle.iris_book.specs.Book.{Updates}
+
+-- the updates in their order, and how many more take no memory
+pub record Accepted : Type 0 where
+  pub updates : Updates
+  pub spare : ℕ
+
+-- how proofs store them
+abbrev pub accepted_code : Coded Label → Coded Update → Coded Accepted
+accepted_code label update =
+    code_by (Updates × ℕ) (coded× (coded_list (coded× (coded_list label) update)) coded_ℕ) (λ a. (a.updates, a.spare)) (λ p. record { updates = p.0; spare = p.1 }) (λ _. refl)
+
+-- an update with the name of its node
+abbrev pub named : List (List Label) → Entered → List Label × Update
+named names e = (slice_index_or names e.node [], e.update)
+
+-- those of the node of that number
+abbrev pub of_node : ℕ → List Entered → List Entered
+of_node node es = filter (λ e. e.node == node) es
+
+-- at that place is an update of that node, with so many before it
+pub record IsAt (es : List Entered) (place node before : ℕ) : Type 0 where
+  pub within : place < length es
+  pub node_is : (d : Entered) → (slice_index_or es place d).node ≡ node
+  pub before_is : (d : Entered) → (slice_index_or es place d).before ≡ before
+
+-- at that place is an update of the same node, with fewer before it than before e, but at least so many
+pub record IsStep (es : List Entered) (at : ℕ) (e : Entered) (number place : ℕ) : Type 0 where
+  pub before : ℕ
+  pub here : IsAt es place e.node before
+  pub enough : number ≤ before
+  pub fewer : before < e.before
+
+-- how an update is linked to those before it
+pub record IsLinked (es : List Entered) (place : ℕ) (e : Entered) : Type 0 where
+  pub counted : e.before ≡ length (of_node e.node (take place es))
+  pub earlier : (n : ℕ) → e.before ≡ n + 1 → IsAt es e.earlier e.node n
+  pub jump : (n : ℕ) × IsAt es e.jump e.node n × (n ≤ e.before) × (0 < e.before → n < e.before)
+
+abbrev pub AllLinked : List Entered → Type 0
+AllLinked es = (place : ℕ) (d : Entered) → place < length es → IsLinked es place (slice_index_or es place d)
+
+-- all are linked, and of each node the last update is known
+pub record AreLinked (nodes : ℕ) (last : List ℕ) (es : List Entered) : Type 0 where
+  pub links : AllLinked es
+  pub known : (place : ℕ) (d : Entered) → place < length es → (slice_index_or es place d).node < nodes
+  pub lasts : length last ≡ nodes
+  pub ends : (node : ℕ) → node < nodes → (n : ℕ) × (length (of_node node es) ≡ n + 1) × IsAt es (slice_index last node) node n
+
+-- the names are apart, and the updates are linked
+pub record AreOrderly (names : List (List Label)) (last : List ℕ) (es : List Entered) : Type 0 where
+  pub apart : IsDistinct (pointwise label_eq) names
+  pub linked : AreLinked (length names) last es
