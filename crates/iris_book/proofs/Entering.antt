@@ -1,5 +1,5 @@
 -- A book with one entry more.
-use Rattle.std.proofs.Common.{◌≡◌, ℕ, ◌+◌, ◌-◌, ◌≤◌, Bool, true, false, cond, append-nil, List, [], ◌∷◌, ◌++◌, length, filter, refl, sym, ◌∙◌, ap, subst, arith, length-append}
+use Rattle.std.proofs.Common.{◌≡◌, ℕ, ◌+◌, ◌-◌, ◌≤◌, Bool, false, cond, append-nil, List, [], ◌∷◌, ◌++◌, length, filter, refl, sym, ◌∙◌, ap, subst, arith, length-append}
 use Rattle.std.proofs.lemmas.List.Elements.{filter-append}
 use Rattle.iris_base.specs.declared.name.Label.{Label}
 use Rattle.iris_tree.specs.Universe.{Node}
@@ -8,12 +8,11 @@ use Rattle.iris_book.specs.declared.update.Update.{Update}
 use Rattle.iris_book.specs.declared.entry.Entry.{Entry}
 use Rattle.iris_book.specs.declared.log.Slot.{Slot}
 use Rattle.iris_book.specs.declared.log.Slot.TheVariants as slot
-use Rattle.iris_book.specs.Book.{History, Updates, with_entry, AreSound, IsNext, weight}
-use Rattle.iris_book.specs.Change.{is_lasting}
+use Rattle.iris_book.specs.Book.{Updates, AreSound, IsNext, weight}
 use Rattle.iris_book.specs.Kept.{IsKept, lasting_weight, answered_weight}
 use Rattle.iris_book.specs.Lines.{Accepted}
 use Rattle.iris_book.specs.Log.{updated, entries_of, is_update}
-use Rattle.iris_book.proofs.Logged.{Counted, IsSlotOf, entries_push, entries_push_update, lasting_more, lasting_same, answered_more, answered_same}
+use Rattle.iris_book.proofs.Logged.{Counted, IsSlotOf, entries_push, entries_push_update, lasting_more, answered_same}
 use Rattle.iris_book.proofs.Values.{sound_more}
 
 -- the entries of the parts after an update, and after another entry

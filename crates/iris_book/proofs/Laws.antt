@@ -1,17 +1,15 @@
 -- What a new entry changes, and what it leaves.
-use Rattle.std.proofs.Common.{◌≡◌, ℕ, zero, suc, ◌+◌, ◌<◌, ◌≤◌, Bool, true, false, cond, if◌then◌else◌, List, [], ◌∷◌, ◌++◌, length, slice_get, Option, Some, None, IsSome, IfSome, refl, sym, ◌∙◌, ap, subst, arith, ◌⊎◌, inl, inr, length-append, append-nil}
+use Rattle.std.proofs.Common.{◌≡◌, ℕ, zero, suc, ◌+◌, ◌<◌, ◌≤◌, Bool, true, false, cond, if◌then◌else◌, List, [], ◌∷◌, ◌++◌, length, slice_get, Option, None, IsSome, IfSome, refl, sym, ◌∙◌, ap, subst, arith, ◌⊎◌, inl, inr, length-append, append-nil}
 use Rattle.std.specs.Cmp.Lexicographic.{pointwise}
 use Rattle.std.proofs.lemmas.Bool.{cases_lt}
 use Rattle.std.proofs.lemmas.List.Elements.{filter_map-append}
-use Rattle.std.proofs.lemmas.Option.{slice_get_past}
 use Rattle.iris_base.specs.declared.name.Label.{Label}
 use Rattle.iris_base.specs.NameOrder.{label_eq}
 use Rattle.iris_tree.specs.declared.local.Local.{Local}
-use Rattle.iris_tree.specs.Universe.{Node}
 use Rattle.iris_book.specs.declared.update.Update.{Update}
 use Rattle.iris_book.specs.declared.entry.Entry.{Entry}
 use Rattle.iris_book.specs.declared.entry.Entry.TheVariants.{Updated, Gave, Answered}
-use Rattle.iris_book.specs.Book.{History, Updates, with_entry, updates_in, update_in, updates_of, updates_at, newest, value_of, value_at, today, today_of, Held}
+use Rattle.iris_book.specs.Book.{History, Updates, with_entry, updates_in, update_in, updates_of, updates_at, newest, value_at, today, today_of, Held}
 use Rattle.iris_book.specs.Change.{after_entry, updates_by, IsBy, KeepsEarlier}
 use Rattle.iris_book.proofs.Newest.{today_more}
 use Rattle.iris_book.proofs.Values.{updates_more, value_stays, value_past}

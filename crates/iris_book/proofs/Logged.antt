@@ -1,6 +1,5 @@
 -- Entries as a log and the updates beside it.
-use Rattle.std.proofs.Common.{◌≡◌, ℕ, zero, suc, ◌+◌, ◌<◌, ◌≤◌, Bool, true, false, cond, not, List, [], ◌∷◌, ◌++◌, length, filter, map, Option, Some, None, refl, sym, ◌∙◌, ap, subst, arith, sum_by, append-nil}
-use Rattle.std.specs.List.{filter_map}
+use Rattle.std.proofs.Common.{◌≡◌, suc, ◌+◌, Bool, true, false, cond, not, List, [], ◌∷◌, ◌++◌, length, filter, refl, ◌∙◌, ap, arith, sum_by, append-nil}
 use Rattle.iris_base.specs.declared.name.Label.{Label}
 use Rattle.iris_book.specs.declared.entry.Entry.{Entry}
 use Rattle.iris_book.specs.declared.entry.Entry.TheVariants as entry
@@ -10,7 +9,7 @@ use Rattle.iris_book.specs.declared.update.Update.{Update}
 use Rattle.std.proofs.lemmas.List.Elements.{filter-append}
 use Rattle.std.proofs.lemmas.List.Sums.{sum_by-append}
 use Rattle.iris_tree.specs.TextLen.{saturated}
-use Rattle.iris_book.specs.Book.{Updates, updates_in, update_in, weight}
+use Rattle.iris_book.specs.Book.{Updates, updates_in, weight}
 use Rattle.iris_book.specs.Kept.{lasting_weight, answered_weight}
 use Rattle.iris_book.specs.Change.{is_lasting}
 use Rattle.iris_book.specs.Log.{updated, entries_of, is_update, stays}

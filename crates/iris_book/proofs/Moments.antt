@@ -1,5 +1,5 @@
 -- When versions began and ended.
-use Rattle.std.proofs.Common.{◌≡◌, ℕ, ◌+◌, ◌≤◌, ◌↔◌, Bool, true, List, slice_get, Option, Some, None, IfSome, refl, sym, ◌∙◌, ap, subst, arith, leb, leb-true, le-leb}
+use Rattle.std.proofs.Common.{◌≡◌, ℕ, ◌+◌, ◌≤◌, ◌↔◌, true, List, slice_get, Option, Some, None, IfSome, refl, sym, subst, arith, leb, leb-true, le-leb}
 use Rattle.std.specs.Prelude.{IsTrue}
 use Rattle.iris_book.specs.declared.update.Update.{Update}
 

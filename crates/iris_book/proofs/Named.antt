@@ -1,7 +1,7 @@
 -- Updates by the names of their nodes.
-use Rattle.std.proofs.Common.{◌≡◌, ℕ, zero, suc, ◌+◌, ◌<◌, ◌≤◌, ◌==◌, Bool, true, false, cond, if◌then◌else◌, List, [], ◌∷◌, ◌++◌, length, get_or, slice_get, map, filter, position, not, ◌||◌, option_map, Option, Some, None, refl, sym, ◌∙◌, ap, subst, arith, eqb, eq-eqb, ne_eqb, ◌⊎◌, inl, inr, length-append}
+use Rattle.std.proofs.Common.{◌≡◌, ℕ, zero, suc, ◌+◌, ◌<◌, ◌≤◌, ◌==◌, Bool, true, false, cond, if◌then◌else◌, List, [], ◌∷◌, ◌++◌, length, get_or, slice_get, map, position, not, ◌||◌, option_map, Option, Some, None, refl, sym, ◌∙◌, ap, subst, arith, eqb, eq-eqb, ◌⊎◌, inl, inr}
 use Rattle.std.specs.Prelude.{slice_index}
-use Rattle.std.specs.List.{IsDistinct, AllByRecursion, filter_map, cons_option, list_any}
+use Rattle.std.specs.List.{IsDistinct, AllByRecursion, cons_option, list_any}
 use Rattle.std.proofs.lemmas.List.Quantifiers.{position-Some}
 use Rattle.std.proofs.lemmas.List.Filters.{length-filter_both}
 use Rattle.std.proofs.lemmas.Option.{slice_get-map, slice_get_past}
@@ -9,15 +9,14 @@ use Rattle.std.specs.Cmp.Lexicographic.{pointwise}
 use Rattle.std.proofs.lemmas.Bool.Decides.{eqb_tells}
 use Rattle.std.proofs.lemmas.List.{length-map, get_or_read}
 use Rattle.std.proofs.Math.ListN.{get_or-append}
-use Rattle.std.proofs.Math.Seq.{get_or-append_seam}
 use Rattle.std.proofs.lemmas.Slice.Eq.{slice_eq-Decides}
 use Rattle.iris_base.specs.declared.name.Label.{Label}
-use Rattle.iris_base.specs.NameOrder.{label_eq, names_equiv}
+use Rattle.iris_base.specs.NameOrder.{label_eq}
 use Rattle.iris_base.proofs.Labels.{label_eq-Decides}
 use Rattle.iris_book.specs.declared.update.Update.{Update}
 use Rattle.iris_book.specs.declared.lines.Entered.{Entered}
-use Rattle.iris_book.specs.Book.{Updates, if_of, updates_of}
-use Rattle.iris_book.specs.Lines.{named, of_node, IsAt, AreLinked, AreOrderly}
+use Rattle.iris_book.specs.Book.{updates_of}
+use Rattle.iris_book.specs.Lines.{named, of_node, IsAt, AreOrderly}
 use Rattle.iris_book.proofs.Linked.{found}
 
 abbrev pub Names : Type 0

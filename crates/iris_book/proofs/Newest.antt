@@ -1,5 +1,5 @@
 -- The newest document, node by node, and after one more update.
-use Rattle.std.proofs.Common.{◌≡◌, ℕ, zero, suc, ◌+◌, ◌<◌, ◌≤◌, ◌||◌, Bool, true, false, cond, if◌then◌else◌, List, [], ◌∷◌, ◌++◌, length, get_or, slice_get, take, map, fold, Option, Some, None, option_map, refl, sym, ◌∙◌, ap, subst, arith, take_all}
+use Rattle.std.proofs.Common.{◌≡◌, ℕ, zero, suc, ◌+◌, ◌<◌, ◌≤◌, ◌||◌, Bool, true, false, cond, if◌then◌else◌, List, [], ◌∷◌, ◌++◌, length, get_or, slice_get, take, map, Option, Some, option_map, refl, sym, ◌∙◌, ap, subst, arith, take_all}
 use Rattle.std.specs.List.{list_any, IsDistinct}
 use Rattle.std.specs.Cmp.Lexicographic.{pointwise}
 use Rattle.std.proofs.lemmas.List.{take_more, length-map, get_or_default}
@@ -14,7 +14,7 @@ use Rattle.iris_tree.proofs.LocalsPut.{locals_same, locals_then}
 use Rattle.iris_book.specs.declared.update.Update.{Update}
 use Rattle.iris_book.specs.declared.lines.Entered.{Entered}
 use Rattle.iris_book.specs.Book.{Updates, updates_of, left_by, today_of}
-use Rattle.iris_book.specs.Lines.{named, of_node, AreOrderly, IsAt}
+use Rattle.iris_book.specs.Lines.{named, of_node, AreOrderly}
 use Rattle.iris_book.proofs.Linked.{found}
 use Rattle.iris_book.proofs.Named.{Names, name_exact, named_of, IsNumberOf, only_one, count_none, last_here}
 use Rattle.iris_book.proofs.Values.{updates_more}

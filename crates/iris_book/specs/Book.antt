@@ -1,5 +1,5 @@
 -- The book: what was accepted in a city since its start, and what that says of each node.
-use Rattle.std.specs.Prelude.{◌≡◌, ℕ, ◌+◌, ◌*◌, ◌≤◌, nat_le, List, [], ◌∷◌, ◌++◌, length, take, map, fold, filter, slice_get, All, Option, Some, None, IsSome, IfSome, option_map, option_and_then, Ok, refl, if◌then◌else◌}
+use Rattle.std.specs.Prelude.{◌≡◌, ℕ, ◌+◌, ◌*◌, ◌≤◌, nat_le, List, [], ◌∷◌, ◌++◌, length, take, fold, slice_get, All, Option, Some, None, IsSome, IfSome, option_map, option_and_then, Ok, refl, if◌then◌else◌}
 use Rattle.std.specs.Result.{result_ok}
 use Rattle.std.specs.List.{filter_map}
 use Rattle.std.specs.List.Sorted.{IsNonDecreasingBy}
@@ -8,9 +8,8 @@ use Rattle.std.specs.Cmp.Lexicographic.{pointwise}
 use Rattle.iris_base.specs.declared.name.Label.{Label}
 use Rattle.iris_base.specs.NameOrder.{label_eq}
 use Rattle.iris_tree.specs.declared.local.Local.{Local}
-use Rattle.iris_tree.specs.declared.change.Change.{Change}
 use Rattle.iris_tree.specs.Universe.{Node, node_at}
-use Rattle.iris_tree.specs.Document.{local_at, with_locals, with_local}
+use Rattle.iris_tree.specs.Document.{local_at, with_locals}
 use Rattle.iris_tree.specs.LocalText.{local_text}
 use Rattle.iris_tree.specs.Changes.{apply_changes, changes_text}
 use Rattle.iris_book.specs.declared.update.Update.{Update}

@@ -4,7 +4,7 @@ use Rattle.iris_tree.specs.Universe.{Node}
 use Rattle.iris_tree.specs.TextLen.{saturated}
 use Rattle.iris_book.specs.declared.entry.Entry.{Entry}
 use Rattle.iris_book.specs.declared.log.Slot.{Slot}
-use Rattle.iris_book.specs.Book.{Updates, AreSound, weight}
+use Rattle.iris_book.specs.Book.{AreSound, weight}
 use Rattle.iris_book.specs.Change.{is_lasting}
 use Rattle.iris_book.specs.Log.{entries_of, is_update}
 use Rattle.iris_book.specs.Lines.{Accepted}

@@ -1,5 +1,5 @@
 -- A log: the entries without the updates themselves, which stand beside it.
-use Rattle.std.specs.Prelude.{ℕ, Bool, true, false, List, [], ◌∷◌, filter, length}
+use Rattle.std.specs.Prelude.{Bool, true, false, List, [], ◌∷◌}
 use Rattle.iris_base.specs.declared.name.Label.{Label}
 use Rattle.iris_book.specs.declared.update.Update.{Update}
 use Rattle.iris_book.specs.declared.entry.Entry.{Entry}

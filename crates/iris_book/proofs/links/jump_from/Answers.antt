@@ -1,4 +1,4 @@
-use Rattle.std.proofs.Common.{get_or, refl, arith, ap}
+use Rattle.std.proofs.Common.{get_or, arith}
 use Rattle.iris_book.proofs.Linked.{at_itself}
 use Rattle.iris_book.proofs.links.jump_from.Goals as goal
 

@@ -1,4 +1,4 @@
-use Rattle.std.proofs.Common.{◌≡◌, ◌∙◌, sym, ap, rules, arith, sum_by, not, refl}
+use Rattle.std.proofs.Common.{◌≡◌, ◌∙◌, ap, arith, sum_by, not, refl}
 use Rattle.std.proofs.lemmas.List.Filters.{sum_by-filter_both}
 use Rattle.iris_tree.specs.TextLen.{saturated}
 use Rattle.iris_book.specs.declared.entry.Entry.{Entry}

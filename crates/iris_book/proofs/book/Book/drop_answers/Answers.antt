@@ -1,10 +1,10 @@
-use Rattle.std.proofs.Common.{◌≡◌, ◌∙◌, sym, ap, refl, rules, arith, filter, length, List}
+use Rattle.std.proofs.Common.{◌≡◌, ◌∙◌, sym, ap, rules, arith, filter, length, List}
 use Rattle.std.proofs.lemmas.Fn.{filter_same}
 use Rattle.iris_book.specs.declared.entry.Entry.{Entry}
 use Rattle.iris_book.specs.declared.log.Slot.{Slot}
 use Rattle.iris_book.specs.Book.{History, Recorded}
 use Rattle.iris_book.specs.Change.{without_answers, is_lasting}
-use Rattle.iris_book.specs.Kept.{IsKept, lasting_weight, answered_weight}
+use Rattle.iris_book.specs.Kept.{lasting_weight, answered_weight}
 use Rattle.iris_book.specs.Log.{entries_of, stays, is_update}
 use Rattle.iris_book.proofs.Logged.{entries_without_answers, updates_stay, lasting_stays, answered_none}
 use Rattle.iris_book.proofs.book.Book.drop_answers.Goals as goal

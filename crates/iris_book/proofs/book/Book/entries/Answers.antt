@@ -1,5 +1,4 @@
-use Rattle.std.proofs.Common.{◌∙◌, sym, ap, subst, length, List}
-use Rattle.iris_book.specs.declared.entry.Entry.{Entry}
+use Rattle.std.proofs.Common.{◌∙◌, sym, ap, subst, length}
 use Rattle.iris_book.specs.Book.{Recorded, Updates, AreSound, IsSound}
 use Rattle.iris_book.proofs.Logged.{length-entries_of, updates_in-entries_of}
 use Rattle.iris_book.proofs.book.Book.entries.Goals as goal

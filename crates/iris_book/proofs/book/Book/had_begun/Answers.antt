@@ -1,6 +1,6 @@
 use Rattle.std.proofs.Common.{◌≡◌, ◌+◌, ◌∙◌, sym, ap, subst, rules, true, Some, None, slice_get, List}
-use Rattle.std.specs.Prelude.{IsTrue, ◌↔◌, IfSome}
-use Rattle.std.proofs.Common.{leb, ◌≤◌}
+use Rattle.std.specs.Prelude.{IsTrue, ◌↔◌}
+use Rattle.std.proofs.Common.{leb}
 use Rattle.iris_book.specs.declared.update.Update.{Update}
 use Rattle.iris_book.specs.Book.{Recorded, Updates, updates_of, updates_at}
 use Rattle.iris_book.proofs.Logged.{updates_in-entries_of}

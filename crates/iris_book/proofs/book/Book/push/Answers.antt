@@ -1,9 +1,8 @@
-use Rattle.std.proofs.Common.{◌≡◌, ◌+◌, ◌≤◌, ◌∙◌, sym, ap, subst, refl, arith, ◌∷◌, [], ◌++◌, List}
+use Rattle.std.proofs.Common.{◌≡◌, ◌+◌, ◌≤◌, ◌∙◌, sym, ap, subst, refl, arith, List}
 use Rattle.iris_tree.specs.TextLen.{saturated}
 use Rattle.iris_book.specs.declared.update.Update.{Update}
 use Rattle.iris_book.specs.declared.entry.Entry.{Entry}
 use Rattle.iris_book.specs.declared.entry.Entry.TheVariants as entry
-use Rattle.iris_book.specs.declared.log.Slot.{Slot}
 use Rattle.iris_book.specs.declared.log.Slot.TheVariants as slot
 use Rattle.iris_book.specs.Book.{History, Recorded, Updates, updates_in, with_entry, today, newest, weight, MayFollow, IsNext}
 use Rattle.iris_book.specs.Change.{KeepsEarlier}

@@ -1,6 +1,4 @@
-use Rattle.std.proofs.Common.{◌≡◌, ◌+◌, ◌∙◌, sym, ap, rules, arith, Some, None, Option, option_copied, option_map, slice_get, ℕ}
-use Rattle.iris_tree.specs.declared.local.Local.{Local}
-use Rattle.iris_book.specs.declared.update.Update.{Update}
+use Rattle.std.proofs.Common.{◌≡◌, ◌+◌, ◌∙◌, sym, ap, rules, Some, None, option_copied, slice_get}
 use Rattle.iris_book.specs.Book.{Recorded, Updates, value_at, value_of, updates_of}
 use Rattle.iris_book.proofs.Logged.{updates_in-entries_of}
 use Rattle.iris_book.proofs.Values.{value_is, value_absent}

@@ -1,4 +1,4 @@
-use Rattle.std.proofs.Common.{◌≡◌, ◌+◌, ◌∙◌, sym, ap, subst, rules, true, Some, None, slice_get, List}
+use Rattle.std.proofs.Common.{◌≡◌, ◌∙◌, sym, ap, subst, rules, true, Some, None, slice_get, List}
 use Rattle.std.specs.Prelude.{IsTrue, ◌↔◌, IfSome}
 use Rattle.std.proofs.Common.{leb, ◌≤◌}
 use Rattle.iris_book.specs.declared.update.Update.{Update}

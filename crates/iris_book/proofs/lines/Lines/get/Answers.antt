@@ -1,9 +1,8 @@
-use Rattle.std.proofs.Common.{◌≡◌, ◌<◌, ◌≤◌, ◌∙◌, sym, ap, subst, rules, arith, length, false, None, Option, slice_get, option_copied, get_or}
+use Rattle.std.proofs.Common.{◌≡◌, ◌<◌, ◌∙◌, sym, ap, subst, rules, arith, length, false, None, slice_get, option_copied, get_or}
 use Rattle.std.specs.List.{list_any}
 use Rattle.std.specs.Cmp.Lexicographic.{pointwise}
 use Rattle.iris_base.specs.NameOrder.{label_eq}
 use Rattle.iris_book.specs.Book.{updates_of}
-use Rattle.iris_book.specs.declared.lines.Entered.{Entered}
 use Rattle.iris_book.specs.Lines.{Accepted, IsAt}
 use Rattle.iris_book.proofs.Linked.{still_later}
 use Rattle.iris_book.proofs.Named.{last_here, count_none, get_is, get_past}

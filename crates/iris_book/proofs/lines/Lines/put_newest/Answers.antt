@@ -1,11 +1,10 @@
-use Rattle.std.proofs.Common.{◌≡◌, ◌<◌, ◌≤◌, ◌∙◌, sym, ap, refl, rules, arith, length, get_or, Some, slice_get}
+use Rattle.std.proofs.Common.{◌≡◌, ◌<◌, ◌≤◌, ◌∙◌, sym, ap, refl, rules, arith, length, Some, slice_get}
 use Rattle.std.specs.Prelude.{slice_index}
 use Rattle.std.proofs.lemmas.Option.{get_or_from_slice_get}
 use Rattle.std.proofs.lemmas.List.{get_or_default}
 use Rattle.iris_tree.specs.Document.{with_local, with_locals}
 use Rattle.iris_tree.proofs.LocalsPut.{locals_kept}
-use Rattle.iris_tree.specs.Universe.{Node}
-use Rattle.iris_book.specs.Book.{today_of, Updates}
+use Rattle.iris_book.specs.Book.{today_of}
 use Rattle.iris_book.specs.Lines.{Accepted}
 use Rattle.iris_book.proofs.Newest.{put_some, put_step, today_put}
 use Rattle.iris_book.proofs.lines.Lines.put_newest.Goals as goal
