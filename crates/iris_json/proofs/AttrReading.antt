@@ -1,5 +1,5 @@
 -- From the members of an object to attributes.
-use Rattle.std.proofs.Common.{◌≡◌, ℕ, suc, List, [], ◌∷◌, ◌++◌, length, map, String, Global, Ordering, Less, Equal, Greater, string_bytes, string_cmp, nat_cmp, Option, Some, Bor, Err, refl, ap, sym, ◌∙◌, subst}
+use Rattle.std.proofs.Common.{◌≡◌, ℕ, List, [], ◌∷◌, ◌++◌, map, String, Global, Ordering, Less, Equal, Greater, string_bytes, string_cmp, nat_cmp, Option, Some, Bor, Err, refl, ap, sym, ◌∙◌, subst}
 use Rattle.std.specs.Cmp.Lexicographic.{slice_cmp}
 use Rattle.std.specs.List.{AllByRecursion}
 use Rattle.std.specs.List.Sorted.{IsStrictlySortedBy}
@@ -15,14 +15,14 @@ use Rattle.serde_json.specs.View.{view, members_view}
 use Rattle.serde_json.proofs.Views.{Entry, put_last}
 use Rattle.iris_tree.specs.Attrs.{Pairs, with_attr}
 use Rattle.iris_tree.specs.LocalText.{attrs_members}
-use Rattle.iris_json.specs.declared.city.CityError.{CityError}
-use Rattle.iris_json.specs.declared.city.CityError.TheVariants.{BadCity, Memory}
-use Rattle.iris_json.specs.CityForm.{IsAttrName, AreTexts}
+use Rattle.iris_json.specs.declared.city.FormError.{FormError}
+use Rattle.iris_json.specs.declared.city.FormError.TheVariants.{Shape, Memory}
+use Rattle.iris_json.specs.CityForm.{IsAttrName, AreAttrs, AreTexts}
 use Rattle.iris_json.specs.CityLine.{Gives}
 
 -- an error that one reader may give another may give too
-pub same_error : {X Y : Type 0} (e : CityError) (x : X) (y : Y) → Gives (Err e) x → Gives (Err e) y
-same_error (BadCity why) x y h = absurd h
+pub same_error : {X Y : Type 0} (e : FormError) (x : X) (y : Y) → Gives (Err e) x → Gives (Err e) y
+same_error Shape x y h = absurd h
 same_error Memory x y h = tt
 
 members-match_ordering : (o : Ordering) (a b c : Pairs) → attrs_members (match_ordering o a b c) ≡ match_ordering o (attrs_members a) (attrs_members b) (attrs_members c)
@@ -72,13 +72,6 @@ pub turn : (es : List Entry) (xs : List (Bor (String Global) × Bor Value)) (s t
 turn es xs s t u r x start yielded is step =
     sym start ∙ rest_so_far deref_pair xs s t yielded ∙ ap (λ (rest : List Entry). map deref_pair xs ++ rest) (rest_more deref_pair t u r x is step)
 
--- there are as many attributes as members
-pub attrs_len : (es : List Entry) (pairs : Pairs) → members_view es ≡ attrs_members pairs → length pairs ≡ length es
-attrs_len [] [] same = refl
-attrs_len [] (p ∷ pairs) same = absurd (cc)
-attrs_len (e ∷ es) [] same = absurd (cc)
-attrs_len (e ∷ es) (p ∷ pairs) same = let rest : members_view es ≡ attrs_members pairs = cc in ap suc (attrs_len es pairs rest)
-
 -- members are those of one list of attributes
 pub attrs_same : (pairs others : Pairs) → attrs_members pairs ≡ attrs_members others → pairs ≡ others
 attrs_same [] [] same = refl
@@ -92,7 +85,7 @@ attrs_same (p ∷ pairs) (q ∷ others) same =
     rw (left, right, tail) refl
 
 -- a member that is an attribute has a name of the form and a text
-pub attr_here : (done : List Entry) (e : Entry) (more : List Entry) (pairs : Pairs) → members_view (done ++ e ∷ more) ≡ attrs_members pairs → AllByRecursion (λ p. IsAttrName p.0) pairs
+pub attr_here : (done : List Entry) (e : Entry) (more : List Entry) (pairs : Pairs) → members_view (done ++ e ∷ more) ≡ attrs_members pairs → AreAttrs pairs
     → (text : List ℕ) × IsAttrName (string_bytes e.0) × (view e.1 ≡ string text)
 attr_here [] e more [] same named = absurd (cc)
 attr_here [] e more (p ∷ pairs) same named =
@@ -128,7 +121,7 @@ names_rise (e ∷ es) (p ∷ pairs) same h =
     (names_after p.0 e.0 es pairs first rest h.0, names_rise es pairs rest h.1)
 
 -- the names, and the texts
-pub names_of : (pairs : Pairs) → AllByRecursion IsAttr pairs → AllByRecursion (λ p. IsAttrName p.0) pairs
+pub names_of : (pairs : Pairs) → AllByRecursion IsAttr pairs → AreAttrs pairs
 names_of [] each = tt
 names_of (p ∷ pairs) each = (each.0.0, names_of pairs each.1)
 

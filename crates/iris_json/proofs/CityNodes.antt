@@ -1,77 +1,120 @@
 -- What a reader of nodes gives are nodes of a city.
-use Rattle.std.proofs.Common.{◌≡◌, ◌≢◌, ℕ, zero, suc, ◌+◌, ◌-◌, ◌≤◌, Bool, true, false, if◌then◌else◌, List, [], ◌∷◌, length, refl, ap, sym, ◌∙◌, subst, arith}
+use Rattle.std.proofs.Common.{◌≡◌, ℕ, zero, suc, ◌≤◌, Bool, true, false, if◌then◌else◌, List, [], ◌∷◌, length, None, bytes_eq, ap, sym, ◌∙◌, subst, arith}
+use Rattle.std.specs.List.{list_any}
 use Rattle.std.specs.Ordering.{is_lt}
 use Rattle.std.specs.Cmp.Lexicographic.{nat_list_eq_equiv}
-use Rattle.std.proofs.lemmas.List.{take_all}
 use Rattle.std.proofs.lemmas.Map.Views.{list_any-from_Contains}
-use Rattle.serde_json.specs.declared.value.Value.{Value}
-use Rattle.serde_json.specs.Data.{Data}
-use Rattle.serde_json.specs.View.{items_view}
+use Rattle.serde_json.specs.Data.{Data, Items}
 use Rattle.iris_base.specs.declared.name.Label.{Label}
+use Rattle.iris_base.specs.Forms.{IsId}
 use Rattle.iris_base.specs.NameOrder.{label_cmp}
 use Rattle.iris_tree.specs.declared.local.Local.{Local}
-use Rattle.iris_tree.specs.NodeCode.{nodes_of-list_of}
-use Rattle.iris_tree.specs.Universe.{Node, node, no_nodes, nodes_of, label_of, local_of, children_of, insert_node, with_child}
-use Rattle.iris_json.specs.CityForm.{AreTexts, IsCityOwn, IsCityNode, AreCityNodes}
-use Rattle.iris_json.specs.CityLine.{LabelAt, LocalAt, AreNodes, put_in_order}
-use Rattle.iris_json.proofs.NodeReading.{ReadSo, children-with_child, nodes_len}
+use Rattle.iris_tree.specs.NodeCode.{size_of, nodes_of-list_of}
+use Rattle.iris_tree.specs.Universe.{Node, node, Nodes, no_nodes, nodes, nodes_of, label_of, local_of, children_of, insert_node, with_child}
+use Rattle.iris_json.specs.CityForm.{AreAttrs, AreTexts, EachOwn, EachOwns, HoldsTexts, EachHoldsTexts, IsCityNode, AreCityNodes}
+use Rattle.iris_json.specs.CityLimits.{levels_of, levels_below, most_of, most_below, count_children, count_attributes, count_local, passed}
+use Rattle.iris_json.specs.CityLine.{OwnAt, IsNode, IsCity, is_node, AreNodes, none, more, put_in_order}
+use Rattle.iris_json.proofs.Measures.{within_none, none_within}
+use Rattle.iris_json.proofs.NodeReading.{children-with_child}
 
-length-insert_node : (n : Node) (ns : List Node) → length (insert_node n ns) ≡ suc (length ns)
-length-insert_node n [] = refl
-length-insert_node n (m ∷ ns) =
-    elim (is_lt (label_cmp (label_of n) (label_of m))) as (λ (b : Bool). length (if b then n ∷ m ∷ ns else m ∷ insert_node n ns) ≡ suc (suc (length ns))) [
-      | true ↦ refl
-      | false ↦ ap suc (length-insert_node n ns)
-    ]
+-- ---- the form, beside the limits
 
-length-put : (ns placed : List Node) → length (put_in_order ns placed) ≡ length ns + length placed
-length-put [] placed = omega arith
-length-put (n ∷ ns) placed = omega (arith, length-put ns (insert_node n placed), length-insert_node n placed)
+abbrev HasOwnForm : List (List ℕ) → Label → Local → Type 0
+HasOwnForm kinds label local = (list_any (bytes_eq label.kind) kinds ≡ true) × IsId label.id × AreAttrs local.attrs × (length local.plain ≡ 0)
 
-all-insert_node : (kinds : List (List ℕ)) (levels : ℕ) (n : Node) (ns : List Node) → IsCityNode kinds levels n → AreCityNodes kinds levels (nodes_of ns) → AreCityNodes kinds levels (nodes_of (insert_node n ns))
-all-insert_node kinds levels n [] one all = (one, tt)
-all-insert_node kinds levels n (m ∷ ns) one all =
-    elim (is_lt (label_cmp (label_of n) (label_of m))) as (λ (b : Bool). AreCityNodes kinds levels (nodes_of (if b then n ∷ m ∷ ns else m ∷ insert_node n ns))) [
+abbrev HasForm : List (List ℕ) → Node → Type 0
+HasForm kinds = EachOwn (HasOwnForm kinds)
+
+abbrev HaveForm : List (List ℕ) → Nodes → Type 0
+HaveForm kinds = EachOwns (HasOwnForm kinds)
+
+all-insert_node : (Such : Label → Local → Type 0) (n : Node) (ns : List Node) → EachOwn Such n → EachOwns Such (nodes_of ns) → EachOwns Such (nodes_of (insert_node n ns))
+all-insert_node Such n [] one all = (one, tt)
+all-insert_node Such n (m ∷ ns) one all =
+    elim (is_lt (label_cmp (label_of n) (label_of m))) as (λ (b : Bool). EachOwns Such (nodes_of (if b then n ∷ m ∷ ns else m ∷ insert_node n ns))) [
       | true ↦ (one, all)
-      | false ↦ (all.0, all-insert_node kinds levels n ns one all.1)
+      | false ↦ (all.0, all-insert_node Such n ns one all.1)
     ]
 
--- what a node is called and holds itself, as it was read
-pub own_fits : (kinds : List (List ℕ)) (d : Data) (label : Label) (local : Local) → LabelAt kinds d label → LocalAt d local → AreTexts local.attrs → IsCityOwn kinds label local
-own_fits kinds d label local called has texts = record {
-  kind = list_any-from_Contains nat_list_eq_equiv label.kind kinds called.2;
-  id = called.3;
-  attrs = has.0.1;
-  texts = texts;
-  no_plain = ap length has.1;
-  short = has.2;
-}
+all-put : (kinds : List (List ℕ)) (ns placed : List Node) → HaveForm kinds (nodes_of ns) → HaveForm kinds (nodes_of placed) → HaveForm kinds (nodes_of (put_in_order ns placed))
+all-put kinds [] placed all before = before
+all-put kinds (n ∷ ns) placed all before = all-put kinds ns (insert_node n placed) all.1 (all-insert_node (HasOwnForm kinds) n placed all.0 before)
 
--- ---- the loop over the children
+own_form : (kinds : List (List ℕ)) (d : Data) (label : Label) (local : Local) → OwnAt kinds d label local → HasOwnForm kinds label local
+own_form kinds d label local own = (list_any-from_Contains nat_list_eq_equiv label.kind kinds own.1.2, own.1.3, own.2.0.1, ap length own.2.1)
 
-pub fit_start : (kinds : List (List ℕ)) (levels : ℕ) (tree : Node) → children_of tree ≡ [] → AreCityNodes kinds levels (nodes_of (children_of tree))
-fit_start kinds levels tree alone = subst (λ (ns : List Node). AreCityNodes kinds levels (nodes_of ns)) (sym alone) tt
+-- a value that is a node has the form of one
+mutual
+  node_form : (kinds : List (List ℕ)) (d : Data) (n : Node) → IsNode kinds d n → HasForm kinds n
+  node_form kinds d n (is_node same label local items below own at are siblings) = (own_form kinds d label local own, all-put kinds below [] (nodes_form kinds items below are) tt)
+
+  nodes_form : (kinds : List (List ℕ)) (items : Items) (ns : List Node) → AreNodes kinds items ns → HaveForm kinds (nodes_of ns)
+  nodes_form kinds items ns none = tt
+  nodes_form kinds items ns (more d n rest ms one all) = (node_form kinds d n one, nodes_form kinds rest ms all)
+
+-- ---- the attributes, as the loop over the children reads them
+
+abbrev pub HaveTexts : Node → Type 0
+HaveTexts tree = EachOwns HoldsTexts (nodes_of (children_of tree))
+
+pub texts_start : (tree : Node) → children_of tree ≡ [] → HaveTexts tree
+texts_start tree alone = subst (λ (ns : List Node). EachOwns HoldsTexts (nodes_of ns)) (sym alone) tt
 
 -- one child more
-pub fit_step : (kinds : List (List ℕ)) (levels : ℕ) (tree new n : Node) → AreCityNodes kinds levels (nodes_of (children_of tree)) → IsCityNode kinds levels n → new ≡ with_child tree n → AreCityNodes kinds levels (nodes_of (children_of new))
-fit_step kinds levels tree new n all one made =
-    subst (λ (ns : List Node). AreCityNodes kinds levels (nodes_of ns)) (sym (ap children_of made ∙ children-with_child tree n)) (all-insert_node kinds levels n (children_of tree) one all)
+pub texts_step : (tree new n : Node) → HaveTexts tree → EachHoldsTexts n → new ≡ with_child tree n → HaveTexts new
+texts_step tree new n all one made =
+    subst (λ (ns : List Node). EachOwns HoldsTexts (nodes_of ns)) (sym (ap children_of made ∙ children-with_child tree n)) (all-insert_node HoldsTexts n (children_of tree) one all)
 
-fit_parts : (kinds : List (List ℕ)) (levels : ℕ) (tree : Node) → IsCityOwn kinds (label_of tree) (local_of tree) → length (children_of tree) ≤ 2000 → AreCityNodes kinds levels (nodes_of (children_of tree)) → IsCityNode kinds (suc levels) tree
-fit_parts kinds levels (node label local below) own few all = (own, few, subst (AreCityNodes kinds levels) (nodes_of-list_of below) all)
+-- all children are read, and the node itself before them
+pub texts_found : (first tree : Node) (label : Label) (local : Local) → local_of tree ≡ local_of first → first ≡ node label local no_nodes → AreTexts local.attrs → HaveTexts tree → EachHoldsTexts tree
+texts_found first (node called held below) label local same made own all =
+    (subst (λ (k : Local). AreTexts k.attrs) (sym (same ∙ ap local_of made)) own, subst (EachOwns HoldsTexts) (nodes_of-list_of below) all)
 
-own_of : (kinds : List (List ℕ)) (first tree : Node) (label : Label) (local : Local) → label_of tree ≡ label_of first → local_of tree ≡ local_of first → first ≡ node label local no_nodes → IsCityOwn kinds label local → IsCityOwn kinds (label_of tree) (local_of tree)
-own_of kinds first tree label local labels locals made own =
-    subst (λ (l : Label). IsCityOwn kinds l (local_of tree)) (sym (labels ∙ ap label_of made)) (subst (λ (k : Local). IsCityOwn kinds label k) (sym (locals ∙ ap local_of made)) own)
+-- ---- the form within the limits
 
--- all children are read
-pub fit_found : (kinds : List (List ℕ)) (levels : ℕ) (items : List Value) (i : ℕ) (first tree : Node) (left whole : ℕ) (ns : List Node) → ReadSo kinds (levels - 1) items i first tree left whole ns
-    → AreCityNodes kinds (levels - 1) (nodes_of (children_of tree)) → levels ≢ 0 → (label : Label) (local : Local) → first ≡ node label local no_nodes → IsCityOwn kinds label local → length items ≤ i → length items ≤ 2000
-    → IsCityNode kinds levels tree
-fit_found kinds zero items i first tree left whole ns s all above label local made own end few = absurd (above refl)
-fit_found kinds (suc levels) items i first tree left whole ns s all above label local made own end few =
-    let are = subst (λ (vs : List Value). AreNodes kinds (suc levels - 1) (items_view vs) ns) (take_all i items end) s.are in
-    let count = nodes_len kinds (suc levels - 1) items ns are in
-    let less : suc levels - 1 ≡ levels = omega arith in
-    fit_parts kinds levels tree (own_of kinds first tree label local s.label s.local made own) (omega (arith, ap length s.children, length-put ns [], count, few))
-    (subst (λ k. AreCityNodes kinds k (nodes_of (children_of tree))) less all)
+mutual
+  form_fits : (kinds : List (List ℕ)) (levels : ℕ) (n : Node) → HasForm kinds n → EachHoldsTexts n → levels_of n ≤ levels → most_of count_children n ≤ 2000 → most_of count_attributes n ≤ 64 → most_of count_local n ≤ 1024 → IsCityNode kinds levels n
+  form_fits kinds zero (node label local below) form held deep wide many long = absurd (omega (arith, deep))
+  form_fits kinds (suc levels) (node label local below) form held deep wide many long = (
+    record { kind = form.0.0; id = form.0.1; attrs = form.0.2; texts = held.0; few = omega (arith, many); no_plain = form.0.3; short = omega (arith, long) },
+    omega (arith, wide),
+    forms_fit kinds levels below form.1 held.1 (omega (arith, deep)) (omega (arith, wide)) (omega (arith, many)) (omega (arith, long)),
+  )
+
+  forms_fit : (kinds : List (List ℕ)) (levels : ℕ) (ns : Nodes) → HaveForm kinds ns → EachOwns HoldsTexts ns → levels_below ns ≤ levels → most_below count_children ns ≤ 2000 → most_below count_attributes ns ≤ 64 → most_below count_local ns ≤ 1024 → AreCityNodes kinds levels ns
+  forms_fit kinds levels no_nodes form held deep wide many long = tt
+  forms_fit kinds levels (nodes n ns) form held deep wide many long = (
+    form_fits kinds levels n form.0 held.0 (omega (arith, deep)) (omega (arith, wide)) (omega (arith, many)) (omega (arith, long)),
+    forms_fit kinds levels ns form.1 held.1 (omega (arith, deep)) (omega (arith, wide)) (omega (arith, many)) (omega (arith, long)),
+  )
+
+-- a tree that is read and passes no limit has the nodes of a city
+pub tree_fits : (kinds : List (List ℕ)) (agent : List ℕ) (d : Data) (tree : Node) → IsCity d kinds agent tree → EachHoldsTexts tree → passed tree ≡ None → IsCityNode kinds 16 tree
+tree_fits kinds agent d tree is held within =
+    let w = within_none tree within in
+    form_fits kinds 16 tree (node_form kinds is.tree_at.0 tree is.tree_at.2) held w.labels w.children w.attributes w.local
+
+-- ---- and back
+
+abbrev Bounds : ℕ → ℕ → ℕ → ℕ → ℕ → Type 0
+Bounds levels labels children attributes local = (labels ≤ levels) × (children ≤ 2000) × (attributes ≤ 64) × (local ≤ 1024)
+
+mutual
+  bounded : (kinds : List (List ℕ)) (levels : ℕ) (n : Node) → IsCityNode kinds levels n → Bounds levels (levels_of n) (most_of count_children n) (most_of count_attributes n) (most_of count_local n)
+  bounded kinds zero n fits = absurd fits
+  bounded kinds (suc levels) (node label local below) fits =
+      let b = all_bounded kinds levels below fits.2 in
+      (omega (arith, b.0), omega (arith, b.1, fits.1), omega (arith, b.2, fits.0.few), omega (arith, b.3, fits.0.short))
+
+  all_bounded : (kinds : List (List ℕ)) (levels : ℕ) (ns : Nodes) → AreCityNodes kinds levels ns → Bounds levels (levels_below ns) (most_below count_children ns) (most_below count_attributes ns) (most_below count_local ns)
+  all_bounded kinds levels no_nodes fit = (omega arith, omega arith, omega arith, omega arith)
+  all_bounded kinds levels (nodes n ns) fit =
+      let one = bounded kinds levels n fit.0 in
+      let all = all_bounded kinds levels ns fit.1 in
+      (omega (arith, one.0, all.0), omega (arith, one.1, all.1), omega (arith, one.2, all.2), omega (arith, one.3, all.3))
+
+-- a city passes no limit
+pub city_passes_none : (kinds : List (List ℕ)) (tree : Node) → IsCityNode kinds 16 tree → size_of tree ≤ 20000 → passed tree ≡ None
+city_passes_none kinds tree fits few =
+    let b = bounded kinds 16 tree fits in
+    none_within tree (record { nodes = few; labels = b.0; children = b.1; attributes = b.2; local = b.3 })

@@ -1,20 +1,20 @@
 -- From an object to the bytes that are the text of a city.
-use Rattle.std.proofs.Common.{◌≡◌, ℕ, ◌≤◌, List, [], ◌∷◌, ◌++◌, length, Some, Result, Ok, Err, IfOk, ap, sym, ◌∙◌, subst}
-use Rattle.serde_json.specs.Data.{Data, object, Members}
-use Rattle.serde_json.specs.Find.{as_object}
+use Rattle.std.proofs.Common.{◌≡◌, ℕ, List, [], ◌∷◌, ◌++◌, Err, ap, sym, ◌∙◌, subst}
+use Rattle.serde_json.specs.Data.{Data}
 use Rattle.iris_base.specs.declared.name.Label.{Label}
 use Rattle.iris_tree.specs.Universe.{Node}
-use Rattle.iris_json.specs.declared.city.City.{City}
-use Rattle.iris_json.specs.declared.city.CityError.{CityError}
-use Rattle.iris_json.specs.declared.city.CityError.TheVariants.{BadCity, Memory}
+use Rattle.iris_json.specs.declared.city.FormError.{FormError}
+use Rattle.iris_json.specs.declared.city.FormError.TheVariants.{Shape}
+use Rattle.iris_json.specs.declared.city.FormError.TheVariants as forms
+use Rattle.iris_json.specs.Errors.{form_error}
+use Rattle.iris_json.specs.Extents.{GivesParts}
 use Rattle.iris_json.specs.Lines.{IsJson}
-use Rattle.iris_json.specs.CityLine.{PlaceAt, TreeAt, IsCity, ReadsCity, IsHeldBy, Gives, GivesCity}
-use Rattle.iris_json.proofs.LineReading.{json_unique, object_of}
+use Rattle.iris_json.specs.CityLine.{PlaceAt, TreeAt, IsCity, IsShort, Gives, RefusesCity}
 
--- an error that a reader of a part may give the reader of the city may give too
-pub city_refused : {X : Type 0} (e : CityError) (x : X) (kinds : List (List ℕ)) (agent : List ℕ) (tree : Node) → Gives (Err e) x → GivesCity (Err e) kinds agent tree
-city_refused (BadCity why) x kinds agent tree h = absurd h
-city_refused Memory x kinds agent tree h = tt
+-- an error that a reader of a part may give the reader of all parts may give too
+pub parts_refused : {X : Type 0} (e : FormError) (x : X) (kinds : List (List ℕ)) (agent : List ℕ) (tree : Node) → Gives (Err e) x → GivesParts (Err e) kinds agent tree
+parts_refused Shape x kinds agent tree h = absurd h
+parts_refused forms.Memory x kinds agent tree h = tt
 
 -- the same place, as it was read
 pub place_read : (d : Data) (top label : Label) (id agent : List ℕ) → top ≡ label → id ≡ agent → PlaceAt d label agent → PlaceAt d top id
@@ -34,14 +34,8 @@ one_place new old name top label id agent made none named tops ids =
     made ∙ ap (λ (places : List (List Label × List ℕ)). places ++ (name, id) ∷ []) none
     ∙ ap (λ (n : List Label). (n, id) ∷ []) (named ∙ ap (λ (l : Label). l ∷ []) tops) ∙ ap (λ (i : List ℕ). (label ∷ [], i) ∷ []) ids
 
--- what an object is, its text is
-pub city_found : (bytes : List ℕ) (d : Data) (ms : Members) (r : Result City CityError) → length bytes ≤ 4194304 → IsJson bytes d → Some ms ≡ as_object d
-    → IfOk r (λ city. (agent : List ℕ) × IsCity (object ms) city.kinds agent city.tree × IsHeldBy city agent) → IfOk r (λ city. (agent : List ℕ) × ReadsCity bytes city.kinds agent city.tree × IsHeldBy city agent)
-city_found bytes d ms (Ok city) short j o h = (h.0, (short, (object ms, subst (IsJson bytes) (object_of d ms o) j, h.1)), h.2)
-city_found bytes d ms (Err e) short j o h = tt
-
-pub city_only : (bytes : List ℕ) (d : Data) (ms : Members) (r : Result City CityError) → IsJson bytes d → Some ms ≡ as_object d
-    → ((kinds : List (List ℕ)) (agent : List ℕ) (tree : Node) → IsCity (object ms) kinds agent tree → GivesCity r kinds agent tree)
-    → (kinds : List (List ℕ)) (agent : List ℕ) (tree : Node) → ReadsCity bytes kinds agent tree → GivesCity r kinds agent tree
-city_only bytes d ms r j o h kinds agent tree reads =
-    h kinds agent tree (subst (λ (v : Data). IsCity v kinds agent tree) (json_unique bytes reads.1.0 d reads.1.1 j ∙ object_of d ms o) reads.1.2)
+-- what a text tells whose value gives no parts
+pub form_refused : (bytes : List ℕ) (d : Data) (e : FormError) → IsShort bytes → IsJson bytes d → ((kinds : List (List ℕ)) (agent : List ℕ) (tree : Node) → IsCity d kinds agent tree → GivesParts (Err e) kinds agent tree)
+    → RefusesCity bytes (form_error e)
+form_refused bytes d Shape short j only = (short, (d, j, only))
+form_refused bytes d forms.Memory short j only = short

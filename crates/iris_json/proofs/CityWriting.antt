@@ -25,14 +25,14 @@ use Rattle.iris_base.proofs.Words.{word_ascii}
 use Rattle.iris_tree.specs.declared.local.Local.{Local}
 use Rattle.iris_tree.specs.Attrs.{Pairs}
 use Rattle.iris_tree.specs.LocalText.{attrs_members}
-use Rattle.iris_tree.specs.NodeCode.{size_of}
 use Rattle.iris_tree.specs.Universe.{Node, node, Nodes, no_nodes, nodes, list_of, label_of, local_of, labels_of, insert_node, AllAfter, IsOrdered, AreOrdered}
 use Rattle.iris_json.specs.declared.city.City.{City}
 use Rattle.iris_json.specs.Lines.{IsJson}
 use Rattle.iris_json.specs.Render.{node_data, nodes_data}
-use Rattle.iris_json.specs.CityForm.{AreKinds, IsAttrName, IsCityOwn, IsCityNode, AreCityNodes}
+use Rattle.iris_json.specs.CityForm.{AreKinds, AreAttrs, IsCityOwn, IsCityNode, AreCityNodes}
 use Rattle.iris_json.specs.CityLine.{texts, OwnAt, IsNode, AreNodes, none, more, put_in_order, in_order, IsCity, ReadsCity, IsHeldBy}
 use Rattle.iris_json.specs.CityText.{bare, bare_items, places_data, city_data}
+use Rattle.iris_json.proofs.CityNodes.{city_passes_none}
 use Rattle.iris_json.proofs.NodeReading.{from_parts}
 use Rattle.iris_json.proofs.TextValues.{KeysAfter, IsOfTexts, AreOfTexts, HasTexts, text_is_json}
 
@@ -92,20 +92,20 @@ own_at : (kinds : List (List ℕ)) (label : Label) (local : Local) (below : Node
 own_at kinds label local below own = (
   refl,
   (refl, refl, Contains-from_any (λ x y. (bytes_eq-Decides x y).0) label.kind kinds own.kind, own.id),
-  ((inl refl, own.attrs), empty local.plain own.no_plain, own.short),
+  ((inl refl, own.attrs), empty local.plain own.no_plain),
 )
 
 mutual
-  node_reads : (kinds : List (List ℕ)) (levels : ℕ) (n : Node) → IsCityNode kinds levels n → IsOrdered n → IsNode kinds levels (bare (node_data n)) n
+  node_reads : (kinds : List (List ℕ)) (levels : ℕ) (n : Node) → IsCityNode kinds levels n → IsOrdered n → IsNode kinds (bare (node_data n)) n
   node_reads kinds zero n h ordered = absurd h
   node_reads kinds (suc levels) (node label local below) h ordered =
-      from_parts kinds levels (bare (node_data (node label local below))) (node label local below) (bare_items (nodes_data below)) (list_of below)
-      (own_at kinds label local below h.0) (inl refl) (nodes_read kinds levels below h.2 ordered) (record { few = h.1; differ = differ below ordered }) (in_order-ordered below ordered)
+      from_parts kinds (bare (node_data (node label local below))) (node label local below) (bare_items (nodes_data below)) (list_of below)
+      (own_at kinds label local below h.0) (inl refl) (nodes_read kinds levels below h.2 ordered) (differ below ordered) (in_order-ordered below ordered)
 
-  nodes_read : (kinds : List (List ℕ)) (levels : ℕ) (ns : Nodes) → AreCityNodes kinds levels ns → AreOrdered ns → AreNodes kinds levels (bare_items (nodes_data ns)) (list_of ns)
-  nodes_read kinds levels no_nodes h ordered = none levels
+  nodes_read : (kinds : List (List ℕ)) (levels : ℕ) (ns : Nodes) → AreCityNodes kinds levels ns → AreOrdered ns → AreNodes kinds (bare_items (nodes_data ns)) (list_of ns)
+  nodes_read kinds levels no_nodes h ordered = none
   nodes_read kinds levels (nodes n ns) h ordered =
-      more levels (bare (node_data n)) n (bare_items (nodes_data ns)) (list_of ns) (node_reads kinds levels n h.0 ordered.0) (nodes_read kinds levels ns h.1 ordered.2)
+      more (bare (node_data n)) n (bare_items (nodes_data ns)) (list_of ns) (node_reads kinds levels n h.0 ordered.0) (nodes_read kinds levels ns h.1 ordered.2)
 
 -- ---- what is written is of texts
 
@@ -129,7 +129,7 @@ attrs_after : (name : List ℕ) (pairs : Pairs) → AllByRecursion (λ y. slice_
 attrs_after name [] h = tt
 attrs_after name (p ∷ pairs) h = (h.0, attrs_after name pairs h.1)
 
-attrs_texts : (pairs : Pairs) → AllByRecursion (λ p. IsAttrName p.0) pairs → AllByRecursion (λ p. IsUtf8 p.1) pairs → IsStrictlySortedBy (slice_cmp nat_cmp) (keys_of pairs) → HasTexts (attrs_members pairs)
+attrs_texts : (pairs : Pairs) → AreAttrs pairs → AllByRecursion (λ p. IsUtf8 p.1) pairs → IsStrictlySortedBy (slice_cmp nat_cmp) (keys_of pairs) → HasTexts (attrs_members pairs)
 unfolding IsStrictlySortedBy
 attrs_texts [] named utf8 rise = tt
 attrs_texts (p ∷ pairs) named utf8 rise = (word_texts Letter WordOrDash 24 p.0 named.0.0, utf8.0, attrs_after p.0 pairs rise.0, attrs_texts pairs named.1 utf8.1 rise.1)
@@ -141,7 +141,7 @@ mutual
       let kind = word_texts Lower Lower 16 label.kind (is_kind kinds label.kind each h.0.kind) in
       let id = word_texts Word Word 24 label.id h.0.id in (
         IsUtf8-are_ascii (codes "attrs") refl,
-        attrs_texts local.attrs h.0.attrs.named h.0.texts.utf8 h.0.texts.rise,
+        attrs_texts local.attrs h.0.attrs h.0.texts.utf8 h.0.texts.rise,
         (refl, (refl, (refl, tt))),
         (
           IsUtf8-are_ascii (codes "id") refl,
@@ -197,12 +197,12 @@ parts_data agents kinds place tree = object
 abbrev line_data : List (List ℕ) → List ℕ → Node → Data
 line_data kinds agent tree = parts_data (agent ∷ []) kinds ((label_of tree ∷ [], agent) ∷ []) tree
 
-line_is_city : (kinds : List (List ℕ)) (agent : List ℕ) (tree : Node) → AreKinds kinds → IsAgentId agent → IsCityNode kinds 16 tree → size_of tree ≤ 20000 → IsOrdered tree → IsCity (line_data kinds agent tree) kinds agent tree
-line_is_city kinds agent tree are is fits small ordered = record {
+line_is_city : (kinds : List (List ℕ)) (agent : List ℕ) (tree : Node) → AreKinds kinds → IsAgentId agent → IsCityNode kinds 16 tree → IsOrdered tree → IsCity (line_data kinds agent tree) kinds agent tree
+line_is_city kinds agent tree are is fits ordered = record {
   keys = refl;
   kinds_at = (refl, are);
   agent_at = (refl, is);
-  tree_at = (bare (node_data tree), refl, node_reads kinds 16 tree fits ordered, small);
+  tree_at = (bare (node_data tree), refl, node_reads kinds 16 tree fits ordered);
   place_at = refl;
 }
 
@@ -259,5 +259,5 @@ city_reads city ordered line written short =
     ∙ ap (λ (place : List (List Label × List ℕ)). parts_data (one.0 ∷ []) city.kinds place city.tree) placed in
     let text : compact_text value ≡ line = sym (written ∙ ap compact_text same) in
     let json = text_is_json value (line_texts city.kinds one.0 city.tree city.kinds_fit is city.nodes_fit) (line_depth city.kinds one.0 city.tree city.nodes_fit) in
-    let city_is = line_is_city city.kinds one.0 city.tree city.kinds_fit is city.nodes_fit city.few_nodes ordered in
-    (one.0, (short, (value, subst (λ (bytes : List ℕ). IsJson bytes value) text json, city_is)), (one.1, placed))
+    let city_is = line_is_city city.kinds one.0 city.tree city.kinds_fit is city.nodes_fit ordered in
+    (one.0, (short, (value, subst (λ (bytes : List ℕ). IsJson bytes value) text json, city_is), city_passes_none city.kinds city.tree city.nodes_fit city.few_nodes), (one.1, placed))

@@ -1,20 +1,21 @@
 -- From a JSON value to a node: its children are read one after another, and put in the order of labels.
-use Rattle.std.proofs.Common.{◌≡◌, ℕ, zero, suc, ◌+◌, ◌-◌, ◌<◌, ◌≤◌, Bool, true, false, ◌||◌, List, [], ◌∷◌, ◌++◌, length, take, drop, get_or, Option, Some, None, IsSome, if◌then◌else◌, refl, ap, sym, ◌∙◌, subst, arith, append_assoc, append-nil, ◌≢◌, ◌↔◌, Ok, Err, IsErrOf}
+use Rattle.std.proofs.Common.{◌≡◌, ℕ, zero, suc, ◌+◌, ◌<◌, ◌≤◌, max, Bool, true, false, ◌||◌, inl, inr, Ordering, Less, Equal, Greater, nat_cmp, codes, List, [], ◌∷◌, ◌++◌, length, take, drop, get_or, Option, Some, None, IsSome, if◌then◌else◌, refl, ap, sym, ◌∙◌, subst, arith, append_assoc, append-nil, ◌↔◌, Ok, Err, IsErrOf}
 use Rattle.std.specs.List.{list_any, AllByRecursion, IsDistinct}
-use Rattle.std.specs.Ordering.{is_lt}
+use Rattle.std.specs.Cmp.Lexicographic.{slice_cmp}
+use Rattle.std.specs.Ordering.{is_lt, match_ordering}
 use Rattle.std.proofs.lemmas.List.{take_more, take_all}
 use Rattle.std.proofs.lemmas.Bool.{or_from, or_parts}
 use Rattle.std.proofs.lemmas.Map.Keys.{IsDistinct-push}
 use Rattle.std.proofs.Math.Seq.{drop-cons}
 use Rattle.std.proofs.Math.ListN.{drop_of_length-le}
 use Rattle.serde_json.specs.declared.value.Value.{Value}
-use Rattle.serde_json.specs.Data.{Data, object, Members, Items, no_items, item}
-use Rattle.serde_json.specs.Find.{as_object}
+use Rattle.serde_json.specs.Data.{Data, object, Members, no_members, member, Items, no_items, item, depth, items_depth, members_depth}
+use Rattle.serde_json.specs.Find.{as_object, get_member}
 use Rattle.serde_json.specs.View.{view, items_view}
 use Rattle.iris_base.specs.declared.name.Label.{Label}
 use Rattle.iris_base.specs.NameOrder.{label_eq, label_cmp, labels_equiv}
 use Rattle.iris_tree.specs.declared.local.Local.{Local}
-use Rattle.iris_tree.specs.NodeCode.{size_of, sizes_of, nodes_of-list_of}
+use Rattle.iris_tree.specs.NodeCode.{nodes_of-list_of}
 use Rattle.iris_tree.specs.Universe.{Node, node, Nodes, no_nodes, nodes_of, list_of, label_of, local_of, children_of, labels_of, child_of, insert_node, with_child}
 use Rattle.iris_tree.specs.declared.tree.InsertError.{InsertError}
 use Rattle.iris_tree.specs.declared.tree.InsertError.TheVariants.{Twin, Memory}
@@ -29,19 +30,18 @@ list_of-nodes_of [] = refl
 list_of-nodes_of (n ∷ ns) = ap (λ (ms : List Node). n ∷ ms) (list_of-nodes_of ns)
 
 -- what a value that is a node has
-abbrev pub Parts : List (List ℕ) → ℕ → Data → Node → Type 0
-Parts kinds zero d n = ⊥
-Parts kinds (suc levels) d n =
-    (items : Items) × (below : List Node) × OwnAt kinds d (label_of n) (local_of n) × NodesAt d items × AreNodes kinds levels items below × AreSiblings below × (children_of n ≡ in_order below)
+abbrev pub Parts : List (List ℕ) → Data → Node → Type 0
+Parts kinds d n =
+    (items : Items) × (below : List Node) × OwnAt kinds d (label_of n) (local_of n) × NodesAt d items × AreNodes kinds items below × AreSiblings below × (children_of n ≡ in_order below)
 
-pub parts : (kinds : List (List ℕ)) (levels : ℕ) (d : Data) (n : Node) → IsNode kinds levels d n → Parts kinds levels d n
-parts kinds levels d n (is_node below_levels same label local items below own at are siblings) = (items, below, own, at, are, siblings, list_of-nodes_of (in_order below))
+pub parts : (kinds : List (List ℕ)) (d : Data) (n : Node) → IsNode kinds d n → Parts kinds d n
+parts kinds d n (is_node same label local items below own at are siblings) = (items, below, own, at, are, siblings, list_of-nodes_of (in_order below))
 
-pub from_parts : (kinds : List (List ℕ)) (levels : ℕ) (d : Data) (n : Node) (items : Items) (below : List Node) → OwnAt kinds d (label_of n) (local_of n) → NodesAt d items → AreNodes kinds levels items below → AreSiblings below → children_of n ≡ in_order below
-    → IsNode kinds (suc levels) d n
-from_parts kinds levels d (node label local ns) items below own at are siblings same =
+pub from_parts : (kinds : List (List ℕ)) (d : Data) (n : Node) (items : Items) (below : List Node) → OwnAt kinds d (label_of n) (local_of n) → NodesAt d items → AreNodes kinds items below → AreSiblings below → children_of n ≡ in_order below
+    → IsNode kinds d n
+from_parts kinds d (node label local ns) items below own at are siblings same =
     let nodes_are : nodes_of (in_order below) ≡ ns = ap nodes_of (sym same) ∙ nodes_of-list_of ns in
-    subst (λ (ms : Nodes). IsNode kinds (suc levels) d (node label local ms)) nodes_are (is_node levels d label local items below own at are siblings)
+    subst (λ (ms : Nodes). IsNode kinds d (node label local ms)) nodes_are (is_node d label local items below own at are siblings)
 
 -- nodes with the same parts are the same
 pub same_node : (s t : Node) → label_of s ≡ label_of t → local_of s ≡ local_of t → children_of s ≡ children_of t → s ≡ t
@@ -52,47 +52,22 @@ same_node (node a l ms) (node b k ns) labels locals children =
 -- ---- lists of nodes
 
 -- what the first of a list of values is
-abbrev Splits : List (List ℕ) → ℕ → Items → List Node → Type 0
-Splits kinds levels no_items ns = ns ≡ []
-Splits kinds levels (item d items) ns = (n : Node) × (rest : List Node) × (ns ≡ n ∷ rest) × IsNode kinds levels d n × AreNodes kinds levels items rest
+abbrev Splits : List (List ℕ) → Items → List Node → Type 0
+Splits kinds no_items ns = ns ≡ []
+Splits kinds (item d items) ns = (n : Node) × (rest : List Node) × (ns ≡ n ∷ rest) × IsNode kinds d n × AreNodes kinds items rest
 
-split : (kinds : List (List ℕ)) (levels : ℕ) (items : Items) (ns : List Node) → AreNodes kinds levels items ns → Splits kinds levels items ns
-split kinds levels items ns (none same) = refl
-split kinds levels items ns (more same d n rest ms one all) = (n, ms, refl, one, all)
+split : (kinds : List (List ℕ)) (items : Items) (ns : List Node) → AreNodes kinds items ns → Splits kinds items ns
+split kinds items ns none = refl
+split kinds items ns (more d n rest ms one all) = (n, ms, refl, one, all)
 
 -- one more at the end
-nodes_more : (kinds : List (List ℕ)) (levels : ℕ) (xs : List Value) (v : Value) (ns : List Node) (n : Node) → AreNodes kinds levels (items_view xs) ns → IsNode kinds levels (view v) n → AreNodes kinds levels (items_view (xs ++ v ∷ [])) (ns ++ n ∷ [])
-nodes_more kinds levels [] v ns n are one =
-    subst (λ (ms : List Node). AreNodes kinds levels (items_view (v ∷ [])) (ms ++ n ∷ [])) (sym (split kinds levels no_items ns are)) (more levels (view v) n no_items [] one (none levels))
-nodes_more kinds levels (x ∷ xs) v ns n are one =
-    let s = split kinds levels (items_view (x ∷ xs)) ns are in
-    subst (λ (ms : List Node). AreNodes kinds levels (items_view ((x ∷ xs) ++ v ∷ [])) (ms ++ n ∷ [])) (sym s.2)
-    (more levels (view x) s.0 (items_view (xs ++ v ∷ [])) (s.1 ++ n ∷ []) s.3 (nodes_more kinds levels xs v s.1 n s.4 one))
-
--- ---- how many nodes
-
-sizes-append : (ms ns : List Node) → sizes_of (nodes_of (ms ++ ns)) ≡ sizes_of (nodes_of ms) + sizes_of (nodes_of ns)
-sizes-append [] ns = omega arith
-sizes-append (m ∷ ms) ns = omega (arith, sizes-append ms ns)
-
-sizes-insert_node : (n : Node) (ns : List Node) → sizes_of (nodes_of (insert_node n ns)) ≡ size_of n + sizes_of (nodes_of ns)
-sizes-insert_node n [] = refl
-sizes-insert_node n (m ∷ ns) =
-    elim (is_lt (label_cmp (label_of n) (label_of m))) as (λ (b : Bool). sizes_of (nodes_of (if b then n ∷ m ∷ ns else m ∷ insert_node n ns)) ≡ size_of n + sizes_of (nodes_of (m ∷ ns))) [
-      | true ↦ refl
-      | false ↦ omega (arith, sizes-insert_node n ns)
-    ]
-
-sizes-put : (ns placed : List Node) → sizes_of (nodes_of (put_in_order ns placed)) ≡ sizes_of (nodes_of ns) + sizes_of (nodes_of placed)
-sizes-put [] placed = omega arith
-sizes-put (n ∷ ns) placed = omega (arith, sizes-put ns (insert_node n placed), sizes-insert_node n placed)
-
-size-parts : (n : Node) → size_of n ≡ suc (sizes_of (nodes_of (children_of n)))
-size-parts (node label local below) = ap (λ (ns : Nodes). suc (sizes_of ns)) (sym (nodes_of-list_of below))
-
--- a node whose children are these, in the order of labels
-pub size-in_order : (n : Node) (ns : List Node) → children_of n ≡ in_order ns → size_of n ≡ suc (sizes_of (nodes_of ns))
-size-in_order n ns same = omega (arith, size-parts n, ap (λ (ms : List Node). sizes_of (nodes_of ms)) same, sizes-put ns [])
+nodes_more : (kinds : List (List ℕ)) (xs : List Value) (v : Value) (ns : List Node) (n : Node) → AreNodes kinds (items_view xs) ns → IsNode kinds (view v) n → AreNodes kinds (items_view (xs ++ v ∷ [])) (ns ++ n ∷ [])
+nodes_more kinds [] v ns n are one =
+    subst (λ (ms : List Node). AreNodes kinds (items_view (v ∷ [])) (ms ++ n ∷ [])) (sym (split kinds no_items ns are)) (more (view v) n no_items [] one none)
+nodes_more kinds (x ∷ xs) v ns n are one =
+    let s = split kinds (items_view (x ∷ xs)) ns are in
+    subst (λ (ms : List Node). AreNodes kinds (items_view ((x ∷ xs) ++ v ∷ [])) (ms ++ n ∷ [])) (sym s.2)
+    (more (view x) s.0 (items_view (xs ++ v ∷ [])) (s.1 ++ n ∷ []) s.3 (nodes_more kinds xs v s.1 n s.4 one))
 
 -- ---- siblings with one label
 
@@ -171,45 +146,41 @@ put_last (m ∷ ns) placed n = put_last ns (insert_node m placed) n
 -- ---- the loop over the children
 
 -- the first i of these values are the nodes ns, which are put into a first tree, and nothing else can be read
-pub record ReadSo (kinds : List (List ℕ)) (levels : ℕ) (items : List Value) (i : ℕ) (first tree : Node) (left whole : ℕ) (ns : List Node) : Type 0 where
+pub record ReadSo (kinds : List (List ℕ)) (items : List Value) (i : ℕ) (first tree : Node) (ns : List Node) : Type 0 where
   pub label : label_of tree ≡ label_of first
   pub local : local_of tree ≡ local_of first
   pub children : children_of tree ≡ in_order ns
-  pub counted : left + size_of tree ≡ whole
-  pub are : AreNodes kinds levels (items_view (take i items)) ns
+  pub are : AreNodes kinds (items_view (take i items)) ns
   pub differ : IsDistinct label_eq (labels_of ns)
-  pub only : (all : List Node) → AreNodes kinds levels (items_view items) all → suc (sizes_of (nodes_of all)) ≤ whole → (rest : List Node) × (all ≡ ns ++ rest) × AreNodes kinds levels (items_view (drop i items)) rest
+  pub only : (all : List Node) → AreNodes kinds (items_view items) all → (rest : List Node) × (all ≡ ns ++ rest) × AreNodes kinds (items_view (drop i items)) rest
 
-pub so_start : (kinds : List (List ℕ)) (levels : ℕ) (items : List Value) (first : Node) (left whole : ℕ) → children_of first ≡ [] → left + size_of first ≡ whole → ReadSo kinds levels items 0 first first left whole []
+pub so_start : (kinds : List (List ℕ)) (items : List Value) (first : Node) → children_of first ≡ [] → ReadSo kinds items 0 first first []
 unfolding IsDistinct
-so_start kinds levels items first left whole alone counted = record {
+so_start kinds items first alone = record {
   label = refl;
   local = refl;
   children = alone;
-  counted = counted;
-  are = none levels;
+  are = none;
   differ = tt;
-  only = λ all are small. (all, refl, are);
+  only = λ all are. (all, refl, are);
 }
 
 -- the node that the next value is in any reading of all
-pub next_node : (kinds : List (List ℕ)) (levels : ℕ) (items : List Value) (i : ℕ) (first tree : Node) (left whole : ℕ) (ns : List Node) → ReadSo kinds levels items i first tree left whole ns
-    → (v : Value) → i < length items → v ≡ get_or items i v → (all : List Node) → AreNodes kinds levels (items_view items) all → suc (sizes_of (nodes_of all)) ≤ whole
-    → (m : Node) × (rest : List Node) × (all ≡ ns ++ m ∷ rest) × IsNode kinds levels (view v) m × AreNodes kinds levels (items_view (drop (i + 1) items)) rest × (size_of m ≤ left)
-next_node kinds levels items i first tree left whole ns s v within is all are small =
-    let later = s.only all are small in
+pub next_node : (kinds : List (List ℕ)) (items : List Value) (i : ℕ) (first tree : Node) (ns : List Node) → ReadSo kinds items i first tree ns
+    → (v : Value) → i < length items → v ≡ get_or items i v → (all : List Node) → AreNodes kinds (items_view items) all
+    → (m : Node) × (rest : List Node) × (all ≡ ns ++ m ∷ rest) × IsNode kinds (view v) m × AreNodes kinds (items_view (drop (i + 1) items)) rest
+next_node kinds items i first tree ns s v within is all are =
+    let later = s.only all are in
     let after : suc i ≡ i + 1 = omega arith in
     let here : drop i items ≡ v ∷ drop (i + 1) items = drop-cons items i v within ∙ ap (λ (x : Value). x ∷ drop (suc i) items) (sym is) ∙ ap (λ k. v ∷ drop k items) after in
-    let front = split kinds levels (items_view (v ∷ drop (i + 1) items)) later.0 (subst (λ (vs : List Value). AreNodes kinds levels (items_view vs) later.0) here later.2) in
+    let front = split kinds (items_view (v ∷ drop (i + 1) items)) later.0 (subst (λ (vs : List Value). AreNodes kinds (items_view vs) later.0) here later.2) in
     let whole_is : all ≡ ns ++ front.0 ∷ front.1 = later.1 ∙ ap (λ (ms : List Node). ns ++ ms) front.2 in
-    let size = ap (λ (ms : List Node). sizes_of (nodes_of ms)) whole_is ∙ sizes-append ns (front.0 ∷ front.1) in
-    let fits : size_of front.0 ≤ left = omega (arith, size, small, s.counted, size-in_order tree ns s.children) in
-    (front.0, front.1, whole_is, front.3, front.4, fits)
+    (front.0, front.1, whole_is, front.3, front.4)
 
 -- in a reading of siblings that differ, the next node has a new label
 pub new_label : (tree : Node) (ns all : List Node) (m : Node) (rest : List Node) → children_of tree ≡ in_order ns → AreSiblings all → all ≡ ns ++ m ∷ rest → child_of (label_of m) (children_of tree) ≡ None
 new_label tree ns all m rest same siblings whole =
-    let differ = subst (λ (ms : List Node). IsDistinct label_eq (labels_of ms)) whole siblings.differ in
+    let differ = subst (λ (ms : List Node). IsDistinct label_eq (labels_of ms)) whole siblings in
     ap (child_of (label_of m)) same ∙ labelled_none (label_of m) (in_order ns) (any-in_order (label_of m) ns ∙ none_before ns m rest differ)
 
 label-with_child : (t n : Node) → label_of (with_child t n) ≡ label_of t
@@ -222,11 +193,11 @@ pub children-with_child : (t n : Node) → children_of (with_child t n) ≡ inse
 children-with_child (node label local below) n = list_of-nodes_of (insert_node n (list_of below))
 
 -- one child more
-pub so_step : (kinds : List (List ℕ)) (levels : ℕ) (items : List Value) (i : ℕ) (first tree : Node) (left whole : ℕ) (ns : List Node) → ReadSo kinds levels items i first tree left whole ns
-    → (v : Value) → i < length items → v ≡ get_or items i v → (n new : Node) (now : ℕ) → IsNode kinds levels (view v) n → ((m : Node) → IsNode kinds levels (view v) m → size_of m ≤ left → n ≡ m) → now + size_of n ≡ left
+pub so_step : (kinds : List (List ℕ)) (items : List Value) (i : ℕ) (first tree : Node) (ns : List Node) → ReadSo kinds items i first tree ns
+    → (v : Value) → i < length items → v ≡ get_or items i v → (n new : Node) → IsNode kinds (view v) n → ((m : Node) → IsNode kinds (view v) m → n ≡ m)
     → new ≡ with_child tree n → child_of (label_of n) (children_of tree) ≡ None
-    → ReadSo kinds levels items (i + 1) first new now whole (ns ++ n ∷ [])
-so_step kinds levels items i first tree left whole ns s v within is n new now one only counts made fresh =
+    → ReadSo kinds items (i + 1) first new (ns ++ n ∷ [])
+so_step kinds items i first tree ns s v within is n new one only made fresh =
     let children_are : children_of new ≡ in_order (ns ++ n ∷ []) =
     ap children_of made ∙ children-with_child tree n ∙ ap (insert_node n) s.children ∙ sym (put_last ns [] n) in
     let before : take i items ++ v ∷ [] ≡ take (i + 1) items = ap (λ (x : Value). take i items ++ x ∷ []) is ∙ sym (take_more items i v within) in
@@ -236,70 +207,80 @@ so_step kinds levels items i first tree left whole ns s v within is n new now on
       label = ap label_of made ∙ label-with_child tree n ∙ s.label;
       local = ap local_of made ∙ local-with_child tree n ∙ s.local;
       children = children_are;
-      counted = omega (arith, size-in_order new (ns ++ n ∷ []) children_are, size-in_order tree ns s.children, sizes-append ns (n ∷ []), s.counted, counts);
-      are = subst (λ (vs : List Value). AreNodes kinds levels (items_view vs) (ns ++ n ∷ [])) before (nodes_more kinds levels (take i items) v ns n s.are one);
+      are = subst (λ (vs : List Value). AreNodes kinds (items_view vs) (ns ++ n ∷ [])) before (nodes_more kinds (take i items) v ns n s.are one);
       differ = distinct_more ns n s.differ unlabelled;
-      only = λ all are small.
-          let next = next_node kinds levels items i first tree left whole ns s v within is all are small in (
+      only = λ all are.
+          let next = next_node kinds items i first tree ns s v within is all are in (
             next.1,
-            next.2 ∙ ap (λ (m : Node). ns ++ m ∷ next.1) (sym (only next.0 next.3 next.5)) ∙ sym (append_assoc ns (n ∷ []) next.1),
+            next.2 ∙ ap (λ (m : Node). ns ++ m ∷ next.1) (sym (only next.0 next.3)) ∙ sym (append_assoc ns (n ∷ []) next.1),
             next.4,
           );
     }
 
+-- ---- each child is less deep than the value that it is in
+
+shallow_step : (o : Ordering) (later : Option Data) (e d : Data) (most : ℕ) → match_ordering o later (Some e) later ≡ Some d → (later ≡ Some d → depth d ≤ most) → depth d ≤ max (depth e) most
+shallow_step Less later e d most h rest = omega (arith, rest h)
+shallow_step Equal later e d most h rest = let same : e ≡ d = cc in omega (arith, ap depth same)
+shallow_step Greater later e d most h rest = omega (arith, rest h)
+
+shallow_member : (ms : Members) (d : Data) → get_member (codes "nodes") ms ≡ Some d → depth d ≤ members_depth ms
+shallow_member no_members d h = absurd (cc)
+shallow_member (member k e ms) d h = shallow_step (slice_cmp nat_cmp (codes "nodes") k) (get_member (codes "nodes") ms) e d (members_depth ms) h (shallow_member ms d)
+
+shallow_item : (vs : List Value) (i : ℕ) (v : Value) → i < length vs → depth (view (get_or vs i v)) ≤ items_depth (items_view vs)
+shallow_item [] i v within = absurd (omega arith)
+shallow_item (x ∷ vs) zero v within = omega arith
+shallow_item (x ∷ vs) (suc i) v within = omega (arith, shallow_item vs i v (omega arith))
+
+shallow_nodes : (ms : Members) (vs : List Value) (i : ℕ) (v : Value) → NodesAt (object ms) (items_view vs) → i < length vs → suc (depth (view (get_or vs i v))) ≤ members_depth ms
+shallow_nodes ms vs i v (inl at) within = omega (arith, shallow_member ms _ at, shallow_item vs i v within)
+shallow_nodes ms [] i v (inr at) within = absurd (omega arith)
+shallow_nodes ms (x ∷ vs) i v (inr at) within = absurd (cc (at.1))
+
+-- as the loop over the children knows them
+pub less_deep : (t : ℕ) (d : Data) (ms : Members) (vs : List Value) (i : ℕ) (v : Value) → Some ms ≡ as_object d → NodesAt (object ms) (items_view vs) → i < length vs → v ≡ get_or vs i v → depth d ≡ t → depth (view v) < t
+less_deep t d ms vs i v o at within is whole = omega (arith, whole, ap depth (object_of d ms o), ap (λ (x : Value). depth (view x)) is, shallow_nodes ms vs i v at within)
+
 -- ---- the ways out
 
-pub nodes_len : (kinds : List (List ℕ)) (levels : ℕ) (vs : List Value) (ns : List Node) → AreNodes kinds levels (items_view vs) ns → length ns ≡ length vs
-nodes_len kinds levels [] ns are = ap length (split kinds levels no_items ns are)
-nodes_len kinds levels (v ∷ vs) ns are =
-    let s = split kinds levels (items_view (v ∷ vs)) ns are in
-    ap length s.2 ∙ ap suc (nodes_len kinds levels vs s.1 s.4)
-
-inside : (kinds : List (List ℕ)) (levels : ℕ) (d : Data) (ms : Members) (t : Node) → levels ≢ 0 → Some ms ≡ as_object d → IsNode kinds levels d t → Parts kinds (suc (levels - 1)) (object ms) t
-inside kinds zero d ms t above o is = absurd (above refl)
-inside kinds (suc levels) d ms t above o is =
-    let less : levels ≡ suc levels - 1 = omega arith in
-    subst (λ k. Parts kinds (suc k) (object ms) t) less (subst (λ (v : Data). Parts kinds (suc levels) v t) (object_of d ms o) (parts kinds (suc levels) d t is))
+inside : (kinds : List (List ℕ)) (d : Data) (ms : Members) (t : Node) → Some ms ≡ as_object d → IsNode kinds d t → Parts kinds (object ms) t
+inside kinds d ms t o is = subst (λ (v : Data). Parts kinds v t) (object_of d ms o) (parts kinds d t is)
 
 -- what there is below a node of this object, whose list of nodes is vs
-pub below_it : (kinds : List (List ℕ)) (levels : ℕ) (d : Data) (ms : Members) (vs : List Value) (t : Node) (whole : ℕ) → levels ≢ 0 → Some ms ≡ as_object d → ((items : Items) → NodesAt (object ms) items → items_view vs ≡ items)
-    → IsNode kinds levels d t → size_of t ≤ whole
-    → (below : List Node) × OwnAt kinds (object ms) (label_of t) (local_of t) × AreNodes kinds (levels - 1) (items_view vs) below × AreSiblings below × (children_of t ≡ in_order below) × (suc (sizes_of (nodes_of below)) ≤ whole) × (length below ≡ length vs)
-below_it kinds levels d ms vs t whole above o same is small =
-    let p = inside kinds levels d ms t above o is in
-    let are = subst (λ (items : Items). AreNodes kinds (levels - 1) items p.1) (sym (same p.0 p.3)) p.4 in
-    (p.1, p.2, are, p.5, p.6, omega (arith, size-in_order t p.1 p.6, small), nodes_len kinds (levels - 1) vs p.1 are)
+pub below_it : (kinds : List (List ℕ)) (d : Data) (ms : Members) (vs : List Value) (t : Node) → Some ms ≡ as_object d → ((items : Items) → NodesAt (object ms) items → items_view vs ≡ items) → IsNode kinds d t
+    → (below : List Node) × OwnAt kinds (object ms) (label_of t) (local_of t) × AreNodes kinds (items_view vs) below × AreSiblings below × (children_of t ≡ in_order below)
+below_it kinds d ms vs t o same is =
+    let p = inside kinds d ms t o is in
+    (p.1, p.2, subst (λ (items : Items). AreNodes kinds items p.1) (sym (same p.0 p.3)) p.4, p.5, p.6)
 
 -- what a node of this object has itself
-pub own_of : (kinds : List (List ℕ)) (levels : ℕ) (d : Data) (ms : Members) (t : Node) → levels ≢ 0 → Some ms ≡ as_object d → IsNode kinds levels d t → OwnAt kinds (object ms) (label_of t) (local_of t)
-own_of kinds levels d ms t above o is = (inside kinds levels d ms t above o is).2
+pub own_of : (kinds : List (List ℕ)) (d : Data) (ms : Members) (t : Node) → Some ms ≡ as_object d → IsNode kinds d t → OwnAt kinds (object ms) (label_of t) (local_of t)
+own_of kinds d ms t o is = (inside kinds d ms t o is).2
 
 -- the list of nodes of this object
-pub nodes_of_it : (kinds : List (List ℕ)) (levels : ℕ) (d : Data) (ms : Members) (t : Node) → levels ≢ 0 → Some ms ≡ as_object d → IsNode kinds levels d t → (items : Items) × NodesAt (object ms) items
-nodes_of_it kinds levels d ms t above o is = let p = inside kinds levels d ms t above o is in (p.0, p.3)
+pub nodes_of_it : (kinds : List (List ℕ)) (d : Data) (ms : Members) (t : Node) → Some ms ≡ as_object d → IsNode kinds d t → (items : Items) × NodesAt (object ms) items
+nodes_of_it kinds d ms t o is = let p = inside kinds d ms t o is in (p.0, p.3)
 
 -- all of the values are read
-pub so_found : (kinds : List (List ℕ)) (levels : ℕ) (d : Data) (ms : Members) (items : List Value) (i : ℕ) (first tree : Node) (left whole : ℕ) (ns : List Node) → ReadSo kinds (levels - 1) items i first tree left whole ns
-    → levels ≢ 0 → Some ms ≡ as_object d → (label : Label) (local : Local) → first ≡ node label local no_nodes → OwnAt kinds (object ms) label local → NodesAt (object ms) (items_view items) → length items ≤ i → length items ≤ 2000
-    → IsNode kinds levels d tree
-so_found kinds zero d ms items i first tree left whole ns s above o label local made own at end few = absurd (above refl)
-so_found kinds (suc levels) d ms items i first tree left whole ns s above o label local made own at end few =
+pub so_found : (kinds : List (List ℕ)) (d : Data) (ms : Members) (items : List Value) (i : ℕ) (first tree : Node) (ns : List Node) → ReadSo kinds items i first tree ns
+    → Some ms ≡ as_object d → (label : Label) (local : Local) → first ≡ node label local no_nodes → OwnAt kinds (object ms) label local → NodesAt (object ms) (items_view items) → length items ≤ i
+    → IsNode kinds d tree
+so_found kinds d ms items i first tree ns s o label local made own at end =
     let own_it : OwnAt kinds (object ms) (label_of tree) (local_of tree) =
     subst (λ (l : Label). OwnAt kinds (object ms) l (local_of tree)) (sym (s.label ∙ ap label_of made))
     (subst (λ (k : Local). OwnAt kinds (object ms) label k) (sym (s.local ∙ ap local_of made)) own) in
-    let less : suc levels - 1 ≡ levels = omega arith in
-    let are = subst (λ (vs : List Value). AreNodes kinds levels (items_view vs) ns) (take_all i items end) (subst (λ k. AreNodes kinds k (items_view (take i items)) ns) less s.are) in
-    let siblings : AreSiblings ns = record { few = omega (arith, nodes_len kinds levels items ns are, few); differ = s.differ } in
-    subst (λ (v : Data). IsNode kinds (suc levels) v tree) (sym (object_of d ms o)) (from_parts kinds levels (object ms) tree (items_view items) ns own_it at are siblings s.children)
+    let are = subst (λ (vs : List Value). AreNodes kinds (items_view vs) ns) (take_all i items end) s.are in
+    subst (λ (v : Data). IsNode kinds v tree) (sym (object_of d ms o)) (from_parts kinds (object ms) tree (items_view items) ns own_it at are s.differ s.children)
 
 -- and there is no other node
-pub so_only : (kinds : List (List ℕ)) (levels : ℕ) (items : List Value) (i : ℕ) (first tree t : Node) (left whole : ℕ) (ns below : List Node) → ReadSo kinds levels items i first tree left whole ns
+pub so_only : (kinds : List (List ℕ)) (items : List Value) (i : ℕ) (first tree t : Node) (ns below : List Node) → ReadSo kinds items i first tree ns
     → (label : Label) (local : Local) → first ≡ node label local no_nodes → ◌≡◌ {A = Label × Local} (label, local) (label_of t, local_of t) → length items ≤ i
-    → AreNodes kinds levels (items_view items) below → children_of t ≡ in_order below → suc (sizes_of (nodes_of below)) ≤ whole → tree ≡ t
-so_only kinds levels items i first tree t left whole ns below s label local made own end are children small =
-    let later = s.only below are small in
+    → AreNodes kinds (items_view items) below → children_of t ≡ in_order below → tree ≡ t
+so_only kinds items i first tree t ns below s label local made own end are children =
+    let later = s.only below are in
     let past = drop_of_length-le items end in
-    let none_left : later.0 ≡ [] = split kinds levels no_items later.0 (subst (λ (vs : List Value). AreNodes kinds levels (items_view vs) later.0) past later.2) in
+    let none_left : later.0 ≡ [] = split kinds no_items later.0 (subst (λ (vs : List Value). AreNodes kinds (items_view vs) later.0) past later.2) in
     let all_read : below ≡ ns = later.1 ∙ ap (λ (ms : List Node). ns ++ ms) none_left ∙ append-nil ns in
     same_node tree t (s.label ∙ ap label_of made ∙ ap (λ (p : Label × Local). p.0) own) (s.local ∙ ap local_of made ∙ ap (λ (p : Label × Local). p.1) own) (s.children ∙ ap in_order (sym all_read) ∙ sym children)
 

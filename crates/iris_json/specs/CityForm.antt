@@ -25,24 +25,40 @@ pub record AreKinds (kinds : List (List ℕ)) : Type 0 where
 abbrev pub IsAttrName : List ℕ → Type 0
 IsAttrName name = IsTag name × (bytes_eq name (codes "id") ≡ false)
 
--- at most 64 attributes
-pub record AreAttrs (pairs : Pairs) : Type 0 where
-  pub few : length pairs ≤ 64
-  pub named : AllByRecursion (λ p. IsAttrName p.0) pairs
+-- the names of attributes are of their form
+abbrev pub AreAttrs : Pairs → Type 0
+AreAttrs = AllByRecursion (λ p. IsAttrName p.0)
 
 -- attributes in the order of their names, with texts as their values
 pub record AreTexts (pairs : Pairs) : Type 0 where
   pub rise : IsStrictlySortedBy (slice_cmp nat_cmp) (keys_of pairs)
   pub utf8 : AllByRecursion (λ p. IsUtf8 p.1) pairs
 
--- what a node of a city is called and holds itself: it is of one of the kinds, has no plain elements, and its canonical text is short
+-- what a node of a city is called and holds itself: it is of one of the kinds, has at most 64 attributes and no plain elements, and its canonical text is short
 pub record IsCityOwn (kinds : List (List ℕ)) (label : Label) (local : Local) : Type 0 where
   pub kind : list_any (bytes_eq label.kind) kinds ≡ true
   pub id : IsId label.id
   pub attrs : AreAttrs local.attrs
   pub texts : AreTexts local.attrs
+  pub few : length local.attrs ≤ 64
   pub no_plain : length local.plain ≡ 0
   pub short : length (local_text local) ≤ 1024
+
+-- what each node of a tree is called and holds itself is such
+abbrev mutual
+  pub EachOwn : (Label → Local → Type 0) → Node → Type 0
+  EachOwn Such (node label local below) = Such label local × EachOwns Such below
+
+  pub EachOwns : (Label → Local → Type 0) → Nodes → Type 0
+  EachOwns Such no_nodes = ⊤
+  EachOwns Such (nodes n ns) = EachOwn Such n × EachOwns Such ns
+
+abbrev pub HoldsTexts : Label → Local → Type 0
+HoldsTexts label local = AreTexts local.attrs
+
+-- the attributes of each node of a tree are in order, with texts as their values
+abbrev pub EachHoldsTexts : Node → Type 0
+EachHoldsTexts = EachOwn HoldsTexts
 
 -- a node of a city, with at most so many levels of nodes and at most 2,000 children each
 abbrev mutual

@@ -1,5 +1,5 @@
--- The city line, as a relation between bytes and what a city holds.
-use Rattle.std.specs.Prelude.{◌≡◌, ◌⊎◌, ℕ, suc, ◌≤◌, true, Contains, List, [], ◌∷◌, map, length, codes, Some, None, Result, Ok, Err}
+-- The city line, as a relation between bytes and what a city holds, and why bytes are none.
+use Rattle.std.specs.Prelude.{◌≡◌, ◌⊎◌, ℕ, ◌<◌, ◌≤◌, true, Contains, List, [], ◌∷◌, map, length, codes, Some, None, Result, Ok, Err}
 use Rattle.std.specs.List.{IsDistinct}
 use Rattle.serde_json.specs.Data.{Data, string, array, Items, no_items, item}
 use Rattle.serde_json.specs.Find.{get}
@@ -10,14 +10,19 @@ use Rattle.iris_base.specs.NameOrder.{label_eq}
 use Rattle.iris_base.specs.NameText.{name_text}
 use Rattle.iris_tree.specs.declared.local.Local.{Local}
 use Rattle.iris_tree.specs.Attrs.{Pairs}
-use Rattle.iris_tree.specs.LocalText.{attrs_data, local_text}
+use Rattle.iris_tree.specs.LocalText.{attrs_data}
 use Rattle.iris_tree.specs.Universe.{Node, node, nodes_of, label_of, labels_of, insert_node}
-use Rattle.iris_tree.specs.NodeCode.{size_of}
 use Rattle.iris_json.specs.declared.city.City.{City}
 use Rattle.iris_json.specs.declared.city.CityError.{CityError}
-use Rattle.iris_json.specs.declared.city.CityError.TheVariants.{BadCity, Memory}
+use Rattle.iris_json.specs.declared.city.CityError.TheVariants.{NotJson, BadCity, CityLimit, Memory}
+use Rattle.iris_json.specs.declared.city.FormError.{FormError}
+use Rattle.iris_json.specs.declared.city.FormError.TheVariants.{Shape}
+use Rattle.iris_json.specs.declared.city.FormError.TheVariants as forms
+use Rattle.iris_json.specs.declared.out.Which.{Which}
+use Rattle.iris_json.specs.declared.out.Which.TheVariants.{Line}
 use Rattle.iris_json.specs.Lines.{IsJson, has_only}
 use Rattle.iris_json.specs.CityForm.{AreKinds, AreAttrs}
+use Rattle.iris_json.specs.CityLimits.{passed}
 
 -- a list of texts
 abbrev pub texts : List (List ℕ) → Data
@@ -35,9 +40,9 @@ AgentAt d agent = (get (codes "agents") d ≡ Some (texts (agent ∷ []))) × Is
 abbrev pub AttrsAt : Data → Pairs → Type 0
 AttrsAt d pairs = ((get (codes "attrs") d ≡ Some (attrs_data pairs)) ⊎ ((get (codes "attrs") d ≡ None) × (pairs ≡ []))) × AreAttrs pairs
 
--- what a node holds itself: attributes and no plain elements, and its canonical text is short
+-- what a node holds itself: attributes and no plain elements
 abbrev pub LocalAt : Data → Local → Type 0
-LocalAt d local = AttrsAt d local.attrs × (local.plain ≡ []) × (length (local_text local) ≤ 1024)
+LocalAt d local = AttrsAt d local.attrs × (local.plain ≡ [])
 
 -- the list at the key `nodes`; absent means none
 abbrev pub NodesAt : Data → Items → Type 0
@@ -59,31 +64,30 @@ put_in_order (n ∷ ns) placed = put_in_order ns (insert_node n placed)
 abbrev pub in_order : List Node → List Node
 in_order ns = put_in_order ns []
 
--- at most 2,000 siblings, no two with one label
-pub record AreSiblings (ns : List Node) : Type 0 where
-  pub few : length ns ≤ 2000
-  pub differ : IsDistinct label_eq (labels_of ns)
+-- no two siblings have one label
+abbrev pub AreSiblings : List Node → Type 0
+AreSiblings ns = IsDistinct label_eq (labels_of ns)
 
--- a value is a node, with at most so many levels of nodes
+-- a value is a node
 mutual
-  pub data IsNode (kinds : List (List ℕ)) : ℕ → Data → Node → Type 0 where
-    is_node : (levels : ℕ) (d : Data) (label : Label) (local : Local) (items : Items) (below : List Node)
-        → OwnAt kinds d label local → NodesAt d items → AreNodes kinds levels items below → AreSiblings below
-        → IsNode kinds (suc levels) d (node label local (nodes_of (in_order below)))
+  pub data IsNode (kinds : List (List ℕ)) : Data → Node → Type 0 where
+    is_node : (d : Data) (label : Label) (local : Local) (items : Items) (below : List Node)
+        → OwnAt kinds d label local → NodesAt d items → AreNodes kinds items below → AreSiblings below
+        → IsNode kinds d (node label local (nodes_of (in_order below)))
 
-  pub data AreNodes (kinds : List (List ℕ)) : ℕ → Items → List Node → Type 0 where
-    none : (levels : ℕ) → AreNodes kinds levels no_items []
-    more : (levels : ℕ) (d : Data) (n : Node) (items : Items) (ns : List Node) → IsNode kinds levels d n → AreNodes kinds levels items ns → AreNodes kinds levels (item d items) (n ∷ ns)
+  pub data AreNodes (kinds : List (List ℕ)) : Items → List Node → Type 0 where
+    none : AreNodes kinds no_items []
+    more : (d : Data) (n : Node) (items : Items) (ns : List Node) → IsNode kinds d n → AreNodes kinds items ns → AreNodes kinds (item d items) (n ∷ ns)
 
--- the node at the key `tree`, of at most 16 levels and 20,000 nodes
+-- the node at the key `tree`
 abbrev pub TreeAt : List (List ℕ) → Data → Node → Type 0
-TreeAt kinds d tree = (value : Data) × (get (codes "tree") d ≡ Some value) × IsNode kinds 16 value tree × (size_of tree ≤ 20000)
+TreeAt kinds d tree = (value : Data) × (get (codes "tree") d ≡ Some value) × IsNode kinds value tree
 
 -- the one pair of the top node's name and the agent at the key `place`
 abbrev pub PlaceAt : Data → Label → List ℕ → Type 0
 PlaceAt d top agent = get (codes "place") d ≡ Some (array (item (texts (name_text (top ∷ []) ∷ agent ∷ [])) no_items))
 
--- a value is the line of a city of one agent, which is placed at the top node
+-- a value is of the form of the line of a city of one agent, which is placed at the top node
 pub record IsCity (d : Data) (kinds : List (List ℕ)) (agent : List ℕ) (tree : Node) : Type 0 where
   pub keys : has_only (codes "kinds" ∷ codes "agents" ∷ codes "place" ∷ codes "tree" ∷ []) d ≡ true
   pub kinds_at : KindsAt d kinds
@@ -91,15 +95,25 @@ pub record IsCity (d : Data) (kinds : List (List ℕ)) (agent : List ℕ) (tree 
   pub tree_at : TreeAt kinds d tree
   pub place_at : PlaceAt d (label_of tree) agent
 
--- the bytes are a spelling of the city line, of at most 4,194,304 bytes
+-- the bytes are JSON of the form of a city line
+abbrev pub SpellsCity : List ℕ → List (List ℕ) → List ℕ → Node → Type 0
+SpellsCity bytes kinds agent tree = (d : Data) × IsJson bytes d × IsCity d kinds agent tree
+
+-- a city line has at most 4,194,304 bytes
+abbrev pub IsShort : List ℕ → Type 0
+IsShort bytes = length bytes ≤ 4194304
+
+-- the bytes are a spelling of the city line, and no limit is passed
 abbrev pub ReadsCity : List ℕ → List (List ℕ) → List ℕ → Node → Type 0
-ReadsCity bytes kinds agent tree = (length bytes ≤ 4194304) × ((d : Data) × IsJson bytes d × IsCity d kinds agent tree)
+ReadsCity bytes kinds agent tree = IsShort bytes × SpellsCity bytes kinds agent tree × (passed tree ≡ None)
+
+-- ---- what a reader answers
 
 -- a reader gives that value, unless there was no memory
-abbrev pub Gives : {X : Type 0} → Result X CityError → X → Type 0
+abbrev pub Gives : {X : Type 0} → Result X FormError → X → Type 0
 Gives (Ok found) x = found ≡ x
-Gives (Err (BadCity why)) x = ⊥
-Gives (Err Memory) x = Unit {0}
+Gives (Err Shape) x = ⊥
+Gives (Err forms.Memory) x = Unit {0}
 
 -- the agent holds the whole city
 abbrev pub IsHeldBy : City → List ℕ → Type 0
@@ -108,5 +122,26 @@ IsHeldBy city agent = (city.agents ≡ agent ∷ []) × (city.place ≡ (label_o
 -- a reader gives that city, unless there was no memory
 abbrev pub GivesCity : Result City CityError → List (List ℕ) → List ℕ → Node → Type 0
 GivesCity (Ok city) kinds agent tree = (city.kinds ≡ kinds) × (city.tree ≡ tree) × IsHeldBy city agent
+GivesCity (Err NotJson) kinds agent tree = ⊥
 GivesCity (Err (BadCity why)) kinds agent tree = ⊥
+GivesCity (Err (CityLimit which count)) kinds agent tree = ⊥
 GivesCity (Err Memory) kinds agent tree = Unit {0}
+
+-- the line is too long, and that is its length
+abbrev pub IsTooLong : List ℕ → Which → ℕ → Type 0
+IsTooLong bytes which count = (4194304 < length bytes) × (which ≡ Line) × (count ≡ length bytes)
+
+-- a value is of no city
+abbrev pub IsNoCity : Data → Type 0
+IsNoCity d = (kinds : List (List ℕ)) (agent : List ℕ) (tree : Node) → IsCity d kinds agent tree → ⊥
+
+-- the bytes are of the form of a city line, and that limit of its nodes is the first that is passed
+abbrev pub Passes : List ℕ → Which → ℕ → Type 0
+Passes bytes which count = (kinds : List (List ℕ)) × (agent : List ℕ) × (tree : Node) × SpellsCity bytes kinds agent tree × (passed tree ≡ Some (which, count))
+
+-- the error is of its cause: the line is too long; or else it is no JSON, or its value of no city, or a limit of its nodes is passed; or there was no memory
+abbrev pub RefusesCity : List ℕ → CityError → Type 0
+RefusesCity bytes NotJson = IsShort bytes × ((d : Data) → IsJson bytes d → ⊥)
+RefusesCity bytes (BadCity why) = IsShort bytes × ((d : Data) × IsJson bytes d × IsNoCity d)
+RefusesCity bytes (CityLimit which count) = IsTooLong bytes which count ⊎ (IsShort bytes × Passes bytes which count)
+RefusesCity bytes Memory = IsShort bytes

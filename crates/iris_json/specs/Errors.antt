@@ -9,8 +9,8 @@ use Rattle.iris_json.specs.declared.line.LineWhy.TheVariants.{Shape, Name, Numbe
 use Rattle.iris_json.specs.declared.city.CityError.{CityError}
 use Rattle.iris_json.specs.declared.city.CityError.TheVariants as cities
 use Rattle.iris_json.specs.declared.city.CityWhy.TheVariants as whys
-use Rattle.iris_base.specs.declared.error.TextError.{TextError}
-use Rattle.iris_base.specs.declared.error.TextError.TheVariants as texts
+use Rattle.iris_json.specs.declared.city.FormError.{FormError}
+use Rattle.iris_json.specs.declared.city.FormError.TheVariants as forms
 use Rattle.iris_base.specs.declared.error.NameError.{NameError}
 use Rattle.iris_base.specs.declared.error.NameError.TheVariants as names
 use Rattle.iris_tree.specs.declared.tree.InsertError.{InsertError}
@@ -26,20 +26,20 @@ abbrev pub name_error : NameError → LineError
 name_error (names.BadName at) = lines.BadLine Name
 name_error names.Memory = lines.Memory
 
--- bytes that are no JSON are no city line
+-- bytes that are no JSON are told as such
 abbrev pub city_error : ValueError → CityError
-city_error values.NotJson = cities.BadCity whys.Shape
+city_error values.NotJson = cities.NotJson
 city_error values.Memory = cities.Memory
 
--- a text that is not of its form is in no city line
-abbrev pub text_error : TextError → CityError
-text_error (texts.BadText at) = cities.BadCity whys.Shape
-text_error texts.Memory = cities.Memory
+-- a value that is not of its form is in no city line
+abbrev pub form_error : FormError → CityError
+form_error forms.Shape = cities.BadCity whys.Shape
+form_error forms.Memory = cities.Memory
 
 -- two siblings with one label are in no city line
-abbrev pub insert_error : InsertError → CityError
-insert_error inserts.Twin = cities.BadCity whys.Shape
-insert_error inserts.Memory = cities.Memory
+abbrev pub insert_error : InsertError → FormError
+insert_error inserts.Twin = forms.Shape
+insert_error inserts.Memory = forms.Memory
 
 -- what is wrong with a line
 abbrev pub why_message : LineWhy → List ℕ
@@ -56,5 +56,7 @@ line_message lines.Memory = codes "out of memory"
 
 -- the message of an error of reading the city line
 abbrev pub city_message : CityError → List ℕ
+city_message cities.NotJson = codes "the line is no JSON"
 city_message (cities.BadCity why) = codes "the line is no city line"
+city_message (cities.CityLimit which count) = codes "the city is past a limit"
 city_message cities.Memory = codes "out of memory"

@@ -8,30 +8,45 @@ ghost use Rattle.iris_tree.specs.Universe.{label_of};
 ghost use Rattle.iris_json.specs.CityForm.{AreKinds, IsCityNode, AreKinds-prop, IsCityNode-prop};
 
 use crate::keys::ValueError;
-use iris_tree::{AgentId, Kind, Memory, Name, Sequence, TextError, Tree};
+use crate::out::Which;
+use iris_tree::{AgentId, Kind, Memory, Name, Sequence, Tree};
 use std::alloc::{AllocError, AllocFailed};
 use std::error::Error;
 use std::fmt;
 
-/// What is wrong with a city line.
+/// What is wrong with the form of a city line.
 #[derive(Clone, Copy, Debug, PartialEq, Eq)]
 pub enum CityWhy {
-    /// The line is no JSON, not of the form of a city line, or past one of its limits.
+    /// Its keys, types, kinds, agent, labels, names of attributes or places are not those of a city line,
+    /// or two siblings have one label.
     Shape,
 }
 
-/// Why no city was read.
+/// Why no city was read. A line has the first of these that fits, in this order: the limit of the line,
+/// no JSON, the form, the limits of the nodes.
 #[derive(Clone, Copy, Debug, PartialEq, Eq)]
 pub enum CityError {
-    /// The line is no city line.
+    /// The bytes are no JSON text.
+    NotJson,
+    /// The JSON value is not of the form of a city line.
     BadCity { why: CityWhy },
+    /// A limit is passed: the line's, or of the nodes the first of `Nodes`, `Depth`, `Children`,
+    /// `Attributes` and `Local` that is. `count` is the greatest count found, or `u64::MAX` where it is
+    /// more: the bytes of the line, the nodes of the city, the labels of its longest name, the most
+    /// children or attributes of a node, the bytes of the longest canonical local information.
+    CityLimit { which: Which, count: u64 },
     /// There was no memory.
     Memory,
 }
 
-const SHAPE: CityError = CityError::BadCity {
-    why: CityWhy::Shape,
-};
+/// Why a JSON value gave no part of a city.
+#[derive(Clone, Copy, Debug, PartialEq, Eq)]
+pub enum FormError {
+    /// It is not of its form.
+    Shape,
+    /// There was no memory.
+    Memory,
+}
 
 impl fmt::Display for CityError {
     ghost use Rattle.std.specs.Prelude.{Some};
@@ -41,7 +56,9 @@ impl fmt::Display for CityError {
 
     fn fmt<W: fmt::Write>(&self, f: &mut fmt::Formatter<W>) -> fmt::Result {
         match self {
+            CityError::NotJson => f.write_str("the line is no JSON"),
             CityError::BadCity { .. } => f.write_str("the line is no city line"),
+            CityError::CityLimit { .. } => f.write_str("the city is past a limit"),
             CityError::Memory => fmt::Display::fmt(&Memory, f),
         }
     }
@@ -57,8 +74,24 @@ impl From<ValueError> for CityError {
 
     fn from(error: ValueError) -> CityError {
         match error {
-            ValueError::NotJson => SHAPE,
+            ValueError::NotJson => CityError::NotJson,
             ValueError::Memory => CityError::Memory,
+        }
+    }
+}
+
+impl From<FormError> for CityError {
+    ghost use Rattle.std.specs.Prelude.{◌≡◌};
+    ghost use Rattle.iris_json.specs.Errors.{form_error};
+
+    ghost from_gives = { λ error e. e ≡ form_error error };
+
+    fn from(error: FormError) -> CityError {
+        match error {
+            FormError::Shape => CityError::BadCity {
+                why: CityWhy::Shape,
+            },
+            FormError::Memory => CityError::Memory,
         }
     }
 }
@@ -74,39 +107,36 @@ impl From<Memory> for CityError {
     }
 }
 
-impl From<AllocError> for CityError {
+impl From<Memory> for FormError {
     ghost use Rattle.std.specs.Prelude.{◌≡◌};
-    ghost use Rattle.iris_json.specs.declared.city.CityError.TheVariants.{Memory};
+    ghost use Rattle.iris_json.specs.declared.city.FormError.TheVariants.{Memory};
 
     ghost from_gives = { λ _ e. e ≡ Memory };
 
-    fn from(_error: AllocError) -> CityError {
-        CityError::Memory
+    fn from(_error: Memory) -> FormError {
+        FormError::Memory
     }
 }
 
-impl<T: Drop> From<AllocFailed<T>> for CityError {
+impl From<AllocError> for FormError {
     ghost use Rattle.std.specs.Prelude.{◌≡◌};
-    ghost use Rattle.iris_json.specs.declared.city.CityError.TheVariants.{Memory};
+    ghost use Rattle.iris_json.specs.declared.city.FormError.TheVariants.{Memory};
 
     ghost from_gives = { λ _ e. e ≡ Memory };
 
-    fn from(_error: AllocFailed<T>) -> CityError {
-        CityError::Memory
+    fn from(_error: AllocError) -> FormError {
+        FormError::Memory
     }
 }
 
-impl From<TextError> for CityError {
+impl<T: Drop> From<AllocFailed<T>> for FormError {
     ghost use Rattle.std.specs.Prelude.{◌≡◌};
-    ghost use Rattle.iris_json.specs.Errors.{text_error};
+    ghost use Rattle.iris_json.specs.declared.city.FormError.TheVariants.{Memory};
 
-    ghost from_gives = { λ error e. e ≡ text_error error };
+    ghost from_gives = { λ _ e. e ≡ Memory };
 
-    fn from(error: TextError) -> CityError {
-        match error {
-            TextError::BadText { .. } => SHAPE,
-            TextError::Memory => CityError::Memory,
-        }
+    fn from(_error: AllocFailed<T>) -> FormError {
+        FormError::Memory
     }
 }
 

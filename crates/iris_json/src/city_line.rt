@@ -1,23 +1,23 @@
 //! The city line: the first line of a script.
-ghost use Rattle.std.specs.Prelude.{◌≡◌, ◌↔◌, ◌<◌, ℕ, List, [], ◌∷◌, length, codes, Some, IfOk, IsTrue};
+ghost use Rattle.std.specs.Prelude.{◌≡◌, ◌↔◌, ◌<◌, ◌≤◌, ℕ, List, [], ◌∷◌, length, codes, Some, IfOk, IfErr, IsTrue};
 ghost use Rattle.serde_json.specs.Data.{string, array, object, item, no_items};
 ghost use Rattle.serde_json.specs.Find.{get_member};
 ghost use Rattle.serde_json.specs.View.{view, members_view};
-ghost use Rattle.iris_base.specs.Forms.{IsKind};
-ghost use Rattle.iris_tree.specs.Universe.{Node};
-ghost use Rattle.iris_json.specs.CityForm.{IsCityNode};
-ghost use Rattle.iris_json.specs.CityLine.{texts, KindsAt, AgentAt, TreeAt, PlaceAt, IsCity, ReadsCity, IsHeldBy, Gives, GivesCity};
+ghost use Rattle.iris_base.specs.Forms.{IsKind, IsAgentId};
+ghost use Rattle.iris_tree.specs.NodeCode.{size_of};
+ghost use Rattle.iris_tree.specs.Universe.{Node, label_of};
+ghost use Rattle.iris_json.specs.CityForm.{AreKinds, EachHoldsTexts, IsCityNode};
+ghost use Rattle.iris_json.specs.CityLine.{texts, KindsAt, AgentAt, TreeAt, PlaceAt, IsCity, ReadsCity, IsHeldBy, Gives, GivesCity, RefusesCity};
+ghost use Rattle.iris_json.specs.Extents.{GivesParts};
 
-use crate::city::{City, CityError, CityWhy};
+use crate::city::{City, CityError, FormError};
+use crate::extent::Extent;
 use crate::keys::{Members, has_only, list_at, read_value, sole_at, value_at};
-use crate::node::{MOST_LABELS, MOST_NODES, read_node};
-use iris_tree::{AgentId, Kind, Label, Name, Sequence, Tree, name_text};
+use crate::node::read_node;
+use crate::out::Which;
+use iris_tree::{AgentId, Kind, Label, Mem, Name, Sequence, Tree, name_text};
 use serde_json::Value;
 use std::alloc::Global;
-
-const SHAPE: CityError = CityError::BadCity {
-    why: CityWhy::Shape,
-};
 
 /// The greatest length of a city line, without its LF.
 const MOST_BYTES: usize = 4_194_304;
@@ -25,35 +25,35 @@ const MOST_BYTES: usize = 4_194_304;
 const MOST_KINDS: usize = 16;
 
 // The kind that a value is.
-fn read_kind(value: &Value) -> Result<Kind, CityError>
+fn read_kind(value: &Value) -> Result<Kind, FormError>
     ensures found { IfOk result (λ kind. (view value.now ≡ string kind) × IsKind kind) }
     ensures only { (kind : List ℕ) → view value.now ≡ string kind → IsKind kind → Gives result kind }
 {
     let Some(text) = value.as_str() else {
-        return Err(SHAPE);
+        return Err(FormError::Shape);
     };
     match Kind::new(text) {
         Ok(kind) => Ok(kind),
-        Err(_) => Err(SHAPE),
+        Err(_) => Err(FormError::Shape),
     }
 }
 
 // The list of different kinds at the key `kinds`.
-fn read_kinds(alloc: Global, members: &Members) -> Result<Sequence<Kind>, CityError>
+fn read_kinds(alloc: Global, members: &Members) -> Result<Sequence<Kind>, FormError>
     ensures found { IfOk result (λ kinds. KindsAt (object (members_view members.now.entries)) kinds) }
     ensures only { (kinds : List (List ℕ)) → KindsAt (object (members_view members.now.entries)) kinds → Gives result kinds }
 {
     let Some(items) = list_at(members, "kinds") else {
-        return Err(SHAPE);
+        return Err(FormError::Shape);
     };
     if items.is_empty() || items.len() > MOST_KINDS {
-        return Err(SHAPE);
+        return Err(FormError::Shape);
     }
     let mut kinds = Vec::new(alloc);
     for item in items {
         let kind = read_kind(item)?;
         if kinds.contains(&kind) {
-            return Err(SHAPE);
+            return Err(FormError::Shape);
         }
         kinds.push(kind)?;
     }
@@ -61,19 +61,19 @@ fn read_kinds(alloc: Global, members: &Members) -> Result<Sequence<Kind>, CityEr
 }
 
 // The one agent at the key `agents`.
-fn read_agent(members: &Members) -> Result<AgentId, CityError>
+fn read_agent(members: &Members) -> Result<AgentId, FormError>
     ensures found { IfOk result (λ agent. AgentAt (object (members_view members.now.entries)) agent) }
     ensures only { (agent : List ℕ) → AgentAt (object (members_view members.now.entries)) agent → Gives result agent }
 {
     let Some(item) = sole_at(members, "agents") else {
-        return Err(SHAPE);
+        return Err(FormError::Shape);
     };
     let Some(text) = item.as_str() else {
-        return Err(SHAPE);
+        return Err(FormError::Shape);
     };
     match AgentId::new(text) {
         Ok(agent) => Ok(agent),
-        Err(_) => Err(SHAPE),
+        Err(_) => Err(FormError::Shape),
     }
 }
 
@@ -109,7 +109,7 @@ fn read_place(
     members: &Members,
     top: Label,
     agent: AgentId,
-) -> Result<Name, CityError>
+) -> Result<Name, FormError>
     ensures found { IfOk result (λ name. (name ≡ top ∷ []) × PlaceAt (object (members_view members.now.entries)) top agent) }
     ensures only { PlaceAt (object (members_view members.now.entries)) top agent → Gives result (top ∷ []) }
 {
@@ -117,64 +117,112 @@ fn read_place(
     name.push(top)?;
     let text = name_text(alloc, &name)?;
     if !places(members, text.as_str(), agent.as_str()) {
-        return Err(SHAPE);
+        return Err(FormError::Shape);
     }
     Ok(name)
 }
 
 // The tree at the key `tree`.
-fn read_tree(alloc: Global, kinds: &[Kind], members: &Members) -> Result<Tree, CityError>
+fn read_tree(alloc: Global, kinds: &[Kind], members: &Members) -> Result<Tree, FormError>
     requires kinds { 0 < length kinds.now }
     ensures found { IfOk result (λ tree. TreeAt kinds.now (object (members_view members.now.entries)) tree) }
-    ensures fits { IfOk result (λ tree. IsCityNode kinds.now 16 tree) }
+    ensures texts { IfOk result EachHoldsTexts }
     ensures only { (tree : Node) → TreeAt kinds.now (object (members_view members.now.entries)) tree → Gives result tree }
 {
     let Some(value) = value_at(members, "tree") else {
-        return Err(SHAPE);
+        return Err(FormError::Shape);
     };
-    let mut left = MOST_NODES;
-    read_node(alloc, kinds, value, MOST_LABELS, &mut left)
+    read_node(alloc, kinds, value)
 }
 
-// The city that an object is.
-fn city_of(alloc: Global, members: &Members) -> Result<City, CityError>
-    ensures found { IfOk result (λ city. (agent : List ℕ) × IsCity (object (members_view members.now.entries)) city.kinds agent city.tree × IsHeldBy city agent) }
-    ensures only { (kinds : List (List ℕ)) (agent : List ℕ) (tree : Node) → IsCity (object (members_view members.now.entries)) kinds agent tree → GivesCity result kinds agent tree }
+// What is in a line of the form of a city line, whose limits were not looked at.
+#[derive(Drop)]
+struct Parts {
+    kinds: Sequence<Kind>,
+    agent: AgentId,
+    // The top node's name.
+    top: Name,
+    tree: Tree,
+}
+
+// What is in an object.
+fn read_parts(alloc: Global, members: &Members) -> Result<Parts, FormError>
+    ensures found { IfOk result (λ parts. IsCity (object (members_view members.now.entries)) parts.kinds parts.agent parts.tree) }
+    ensures texts { IfOk result (λ parts. EachHoldsTexts parts.tree) }
+    ensures top { IfOk result (λ parts. parts.top ≡ label_of parts.tree ∷ []) }
+    ensures only { (kinds : List (List ℕ)) (agent : List ℕ) (tree : Node) → IsCity (object (members_view members.now.entries)) kinds agent tree → GivesParts result kinds agent tree }
 {
     if !has_only(members, &["kinds", "agents", "place", "tree"]) {
-        return Err(SHAPE);
+        return Err(FormError::Shape);
     }
     let kinds = read_kinds(alloc, members)?;
     let agent = read_agent(members)?;
     let tree = read_tree(alloc, kinds.as_slice(), members)?;
     let top = read_place(alloc, members, *tree.label(), agent)?;
-    let mut agents = Sequence::new(alloc);
-    agents.push(agent)?;
-    let mut place = Sequence::new(alloc);
-    place.push((top, agent))?;
-    Ok(City {
+    Ok(Parts {
         kinds,
-        agents,
-        place,
+        agent,
+        top,
         tree,
     })
 }
 
-/// Reads the city line, without its LF. `BadCity` comes where the bytes are no JSON, where the value is
-/// not of the form, and where a limit is passed: 4,194,304 bytes; 1 to 16 different kinds; one agent;
-/// the one pair of the top node's name and that agent as places; 20,000 nodes; 16 labels in a name;
-/// 2,000 children of a node and no two of them with one label; 64 attributes of a node, none named
-/// `id`; 1,024 bytes of canonical local information.
+// What is in a value.
+fn read_form(alloc: Global, value: &Value) -> Result<Parts, FormError>
+    ensures found { IfOk result (λ parts. IsCity (view value.now) parts.kinds parts.agent parts.tree) }
+    ensures texts { IfOk result (λ parts. EachHoldsTexts parts.tree) }
+    ensures top { IfOk result (λ parts. parts.top ≡ label_of parts.tree ∷ []) }
+    ensures only { (kinds : List (List ℕ)) (agent : List ℕ) (tree : Node) → IsCity (view value.now) kinds agent tree → GivesParts result kinds agent tree }
+{
+    match value.as_object() {
+        Some(members) => read_parts(alloc, members),
+        None => Err(FormError::Shape),
+    }
+}
+
+// The city of what was read.
+fn city_of(alloc: Global, parts: Parts) -> Mem<City>
+    requires kinds { AreKinds parts.kinds }
+    requires agent { IsAgentId parts.agent }
+    requires top { parts.top ≡ label_of parts.tree ∷ [] }
+    requires nodes { IsCityNode parts.kinds 16 parts.tree }
+    requires few_nodes { size_of parts.tree ≤ 20000 }
+    ensures kinds { IfOk result (λ city. city.kinds ≡ parts.kinds) }
+    ensures tree { IfOk result (λ city. city.tree ≡ parts.tree) }
+    ensures held { IfOk result (λ city. IsHeldBy city parts.agent) }
+{
+    let mut agents = Sequence::new(alloc);
+    agents.push(parts.agent)?;
+    let mut place = Sequence::new(alloc);
+    place.push((parts.top, parts.agent))?;
+    Ok(City {
+        kinds: parts.kinds,
+        agents,
+        place,
+        tree: parts.tree,
+    })
+}
+
+/// Reads the city line, without its LF: 1 to 16 different kinds; one agent; the one pair of the top
+/// node's name and that agent as places; the nodes, no two siblings with one label, no attribute named
+/// `id`. A line has at most 4,194,304 bytes, a city 20,000 nodes and 16 labels in a name, a node 2,000
+/// children, 64 attributes and 1,024 bytes of canonical local information. The form of the whole line
+/// is looked at before the limits of its nodes.
 pub fn read_city(alloc: Global, bytes: &[u8]) -> Result<City, CityError>
     ensures found { IfOk result (λ city. (agent : List ℕ) × ReadsCity bytes.now city.kinds agent city.tree × IsHeldBy city agent) }
     ensures only { (kinds : List (List ℕ)) (agent : List ℕ) (tree : Node) → ReadsCity bytes.now kinds agent tree → GivesCity result kinds agent tree }
+    ensures refused { IfErr result (RefusesCity bytes.now) }
 {
     if bytes.len() > MOST_BYTES {
-        return Err(SHAPE);
+        return Err(CityError::CityLimit {
+            which: Which::Line,
+            count: bytes.len() as u64,
+        });
     }
     let value = read_value(alloc, bytes)?;
-    match value.as_object() {
-        Some(members) => city_of(alloc, members),
-        None => Err(SHAPE),
+    let parts = read_form(alloc, &value)?;
+    if let Some((which, count)) = Extent::of(&parts.tree).passed() {
+        return Err(CityError::CityLimit { which, count });
     }
+    Ok(city_of(alloc, parts)?)
 }

@@ -5,6 +5,7 @@ mod changes;
 mod city;
 mod city_line;
 mod city_text;
+mod extent;
 mod item;
 mod keys;
 mod line;

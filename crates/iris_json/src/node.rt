@@ -6,42 +6,26 @@ ghost use Rattle.serde_json.specs.Data.{string, object, Items};
 ghost use Rattle.serde_json.specs.View.{view, items_view, members_view};
 ghost use Rattle.iris_tree.specs.Attrs.{Pairs};
 ghost use Rattle.iris_tree.specs.LocalText.{attrs_members};
-ghost use Rattle.iris_tree.specs.NodeCode.{size_of};
 ghost use Rattle.iris_tree.specs.Universe.{Node};
-ghost use Rattle.iris_json.specs.CityForm.{IsAttrName, AreAttrs, AreTexts, IsCityOwn, IsCityNode};
+ghost use Rattle.iris_json.specs.CityForm.{IsAttrName, AreAttrs, AreTexts, EachHoldsTexts};
 ghost use Rattle.iris_json.specs.CityLine.{AttrsAt, LocalAt, NodesAt, LabelAt, OwnAt, IsNode, Gives};
 
-use crate::city::{CityError, CityWhy};
+use crate::city::FormError;
 use crate::keys::{Members, has_only, text_at, value_at};
 use iris_tree::{Attrs, Id, InsertError, Kind, Label, Local, Sequence, Tag, Text, Tree};
 use serde_json::Value;
 use std::alloc::Global;
 
-/// The greatest number of nodes of a city.
-pub const MOST_NODES: u32 = 20_000;
-/// The greatest number of labels of a name.
-pub const MOST_LABELS: u32 = 16;
-
-const MOST_CHILDREN: usize = 2_000;
-
-const MOST_ATTRS: usize = 64;
-
-const MOST_LOCAL_BYTES: u64 = 1_024;
-
-const SHAPE: CityError = CityError::BadCity {
-    why: CityWhy::Shape,
-};
-
-impl From<InsertError> for CityError {
+impl From<InsertError> for FormError {
     ghost use Rattle.std.specs.Prelude.{◌≡◌};
     ghost use Rattle.iris_json.specs.Errors.{insert_error};
 
     ghost from_gives = { λ error e. e ≡ insert_error error };
 
-    fn from(error: InsertError) -> CityError {
+    fn from(error: InsertError) -> FormError {
         match error {
-            InsertError::Twin => SHAPE,
-            InsertError::Memory => CityError::Memory,
+            InsertError::Twin => FormError::Shape,
+            InsertError::Memory => FormError::Memory,
         }
     }
 }
@@ -54,53 +38,50 @@ fn kind_of(kinds: &[Kind], word: &str) -> Option<Kind>
 }
 
 // The label at the keys `kind` and `id`.
-fn read_label(kinds: &[Kind], members: &Members) -> Result<Label, CityError>
+fn read_label(kinds: &[Kind], members: &Members) -> Result<Label, FormError>
     ensures found { IfOk result (λ label. LabelAt kinds.now (object (members_view members.now.entries)) label) }
     ensures only { (label : Label) → LabelAt kinds.now (object (members_view members.now.entries)) label → Gives result label }
 {
     let Some(word) = text_at(members, "kind") else {
-        return Err(SHAPE);
+        return Err(FormError::Shape);
     };
     let Some(id) = text_at(members, "id") else {
-        return Err(SHAPE);
+        return Err(FormError::Shape);
     };
     let Some(kind) = kind_of(kinds, word) else {
-        return Err(SHAPE);
+        return Err(FormError::Shape);
     };
     match Id::new(id) {
         Ok(id) => Ok(Label { kind, id }),
-        Err(_) => Err(SHAPE),
+        Err(_) => Err(FormError::Shape),
     }
 }
 
 // The name and the value of an attribute.
-fn read_attr(alloc: Global, name: &str, value: &Value) -> Result<(Tag, Text), CityError>
+fn read_attr(alloc: Global, name: &str, value: &Value) -> Result<(Tag, Text), FormError>
     ensures found { IfOk result (λ attr. (attr.0 ≡ name.now) × IsAttrName name.now × (view value.now ≡ string attr.1)) }
     ensures utf8 { IfOk result (λ attr. IsUtf8 attr.1) }
     ensures only { (text : List ℕ) → IsAttrName name.now → view value.now ≡ string text → Gives result (name.now, text) }
 {
     let Some(text) = value.as_str() else {
-        return Err(SHAPE);
+        return Err(FormError::Shape);
     };
     let Ok(tag) = Tag::new(name) else {
-        return Err(SHAPE);
+        return Err(FormError::Shape);
     };
     if tag.as_str() == "id" {
-        return Err(SHAPE);
+        return Err(FormError::Shape);
     }
     let text = String::from_str(alloc, text)?;
     Ok((tag, Text::from_string(text)))
 }
 
 // The attributes that these members are.
-fn read_members(alloc: Global, members: &Members) -> Result<Attrs, CityError>
+fn read_members(alloc: Global, members: &Members) -> Result<Attrs, FormError>
     ensures found { IfOk result (λ attrs. (members_view members.now.entries ≡ attrs_members attrs) × AreAttrs attrs) }
     ensures texts { IfOk result AreTexts }
     ensures only { (pairs : Pairs) → members_view members.now.entries ≡ attrs_members pairs → AreAttrs pairs → Gives result pairs }
 {
-    if members.len() > MOST_ATTRS {
-        return Err(SHAPE);
-    }
     let mut attrs = Attrs::new(alloc);
     for (name, value) in members {
         let (tag, text) = read_attr(alloc, name.as_str(), value)?;
@@ -111,7 +92,7 @@ fn read_members(alloc: Global, members: &Members) -> Result<Attrs, CityError>
 
 // The attributes at the key `attrs`.
 #[tactic(auto, using(crate::proofs::AttrReading::no_texts))]
-fn read_attrs(alloc: Global, members: &Members) -> Result<Attrs, CityError>
+fn read_attrs(alloc: Global, members: &Members) -> Result<Attrs, FormError>
     ensures found { IfOk result (λ attrs. AttrsAt (object (members_view members.now.entries)) attrs) }
     ensures texts { IfOk result AreTexts }
     ensures only { (pairs : Pairs) → AttrsAt (object (members_view members.now.entries)) pairs → Gives result pairs }
@@ -120,36 +101,32 @@ fn read_attrs(alloc: Global, members: &Members) -> Result<Attrs, CityError>
         None => Ok(Attrs::new(alloc)),
         Some(value) => match value.as_object() {
             Some(attrs) => read_members(alloc, attrs),
-            None => Err(SHAPE),
+            None => Err(FormError::Shape),
         },
     }
 }
 
 // What a node holds itself.
-fn read_local(alloc: Global, members: &Members) -> Result<Local, CityError>
+fn read_local(alloc: Global, members: &Members) -> Result<Local, FormError>
     ensures found { IfOk result (λ local. LocalAt (object (members_view members.now.entries)) local) }
     ensures texts { IfOk result (λ local. AreTexts local.attrs) }
     ensures only { (local : Local) → LocalAt (object (members_view members.now.entries)) local → Gives result local }
 {
     let attrs = read_attrs(alloc, members)?;
-    let local = Local {
+    Ok(Local {
         attrs,
         plain: Sequence::new(alloc),
-    };
-    if local.text_len() > MOST_LOCAL_BYTES {
-        return Err(SHAPE);
-    }
-    Ok(local)
+    })
 }
 
 // What a node is called, and what it holds itself.
-fn read_own(alloc: Global, kinds: &[Kind], members: &Members) -> Result<(Label, Local), CityError>
+fn read_own(alloc: Global, kinds: &[Kind], members: &Members) -> Result<(Label, Local), FormError>
     ensures found { IfOk result (λ own. OwnAt kinds.now (object (members_view members.now.entries)) own.0 own.1) }
-    ensures fits { IfOk result (λ own. IsCityOwn kinds.now own.0 own.1) }
+    ensures texts { IfOk result (λ own. AreTexts own.1.attrs) }
     ensures only { (label : Label) (local : Local) → OwnAt kinds.now (object (members_view members.now.entries)) label local → Gives result (label, local) }
 {
     if !has_only(members, &["kind", "id", "attrs", "nodes"]) {
-        return Err(SHAPE);
+        return Err(FormError::Shape);
     }
     let label = read_label(kinds, members)?;
     let local = read_local(alloc, members)?;
@@ -157,7 +134,7 @@ fn read_own(alloc: Global, kinds: &[Kind], members: &Members) -> Result<(Label, 
 }
 
 // The list at the key `nodes`.
-fn nodes_at<'a>(members: &'a Members) -> Result<&'a [Value], CityError>
+fn nodes_at<'a>(members: &'a Members) -> Result<&'a [Value], FormError>
     ensures found { IfOk result (λ nodes. NodesAt (object (members_view members.now.entries)) (items_view nodes.now)) }
     ensures only { (items : Items) → NodesAt (object (members_view members.now.entries)) items → IfOk result (λ nodes. items_view nodes.now ≡ items) }
     ensures refused { IfErr result (λ e. (items : Items) → NodesAt (object (members_view members.now.entries)) items → ⊥) }
@@ -166,41 +143,26 @@ fn nodes_at<'a>(members: &'a Members) -> Result<&'a [Value], CityError>
         None => Ok(&[]),
         Some(value) => match value.as_array() {
             Some(nodes) => Ok(nodes.as_slice()),
-            None => Err(SHAPE),
+            None => Err(FormError::Shape),
         },
     }
 }
 
-/// The node that a value is, with all nodes below it, of at most so many levels. `left` is how many
-/// nodes the city may still have.
-pub fn read_node(
-    alloc: Global,
-    kinds: &[Kind],
-    value: &Value,
-    levels: u32,
-    left: &mut u32,
-) -> Result<Tree, CityError>
+/// The node that a value is, with all nodes below it. A JSON text nests at most 127 deep, so no more than
+/// 64 levels of nodes are read.
+pub fn read_node(alloc: Global, kinds: &[Kind], value: &Value) -> Result<Tree, FormError>
     requires kinds { 0 < length kinds.now }
-    ensures found { IfOk result (λ tree. IsNode kinds.now levels (view value.now) tree) }
-    ensures fits { IfOk result (λ tree. IsCityNode kinds.now levels tree) }
-    ensures counts { IfOk result (λ tree. left.new + size_of tree ≡ left.old) }
-    ensures only { (tree : Node) → IsNode kinds.now levels (view value.now) tree → size_of tree ≤ left.old → Gives result tree }
+    ensures found { IfOk result (λ tree. IsNode kinds.now (view value.now) tree) }
+    ensures texts { IfOk result EachHoldsTexts }
+    ensures only { (tree : Node) → IsNode kinds.now (view value.now) tree → Gives result tree }
 {
     let Some(members) = value.as_object() else {
-        return Err(SHAPE);
+        return Err(FormError::Shape);
     };
-    if levels == 0 || *left == 0 {
-        return Err(SHAPE);
-    }
-    *left -= 1;
     let (label, local) = read_own(alloc, kinds, members)?;
     let mut tree = Tree::new(alloc, label, local);
-    let nodes = nodes_at(members)?;
-    if nodes.len() > MOST_CHILDREN {
-        return Err(SHAPE);
-    }
-    for node in nodes {
-        tree.insert(read_node(alloc, kinds, node, levels - 1, left)?)?;
+    for node in nodes_at(members)? {
+        tree.insert(read_node(alloc, kinds, node)?)?;
     }
     Ok(tree)
 }

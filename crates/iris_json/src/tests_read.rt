@@ -2,6 +2,8 @@
 
 use crate::city::{CityError, CityWhy};
 use crate::city_line::read_city;
+use crate::city_text::write_city;
+use crate::out::Which;
 use iris_tree::{Id, Kind, Label, Name, Tree};
 use std::alloc::{AllocError, Global};
 use std::str;
@@ -175,44 +177,168 @@ fn no_nodes(rt: HostRuntime) -> Result<(), Fail> {
     Ok(())
 }
 
-#[test]
-fn limits_of_attributes(rt: HostRuntime) -> Result<(), Fail> {
-    let alloc = rt.alloc();
-    for (count, is) in [(64, true), (65, false)] {
-        let mut members = String::from_str(alloc, r#","attrs":{"a":"""#)?;
-        for i in 1..count {
-            let attr = format!(in alloc; ",\"a{i}\":\"\"")?;
-            members.push_str(attr.as_str())?;
-        }
-        members.push_str("}")?;
-        let line = city_with(alloc, members.as_str())?;
-        assert_eq!(rt; is_city(alloc, line.as_str())?, is, "with {count}");
+// Members of a node: so many attributes, of which the first has a text of so many bytes.
+fn attributes(alloc: Global, count: u32, length: u32) -> Result<String, Fail> {
+    let mut members = String::from_str(alloc, r#","attrs":{"a":""#)?;
+    for _ in 0..length {
+        members.push_str("x")?;
     }
-    for (length, is) in [(995, true), (996, false)] {
-        let mut members = String::from_str(alloc, r#","attrs":{"a":""#)?;
-        for _ in 0..length {
-            members.push_str("x")?;
+    members.push_str("\"")?;
+    for i in 1..count {
+        let attr = format!(in alloc; ",\"a{i}\":\"\"")?;
+        members.push_str(attr.as_str())?;
+    }
+    members.push_str("}")?;
+    Ok(members)
+}
+
+// Members of a node: so many nodes below it, one below another.
+fn levels(alloc: Global, count: u32) -> Result<String, Fail> {
+    let mut members = String::new(alloc);
+    for _ in 0..count {
+        members.push_str(r#","nodes":[{"kind":"hood","id":"n""#)?;
+    }
+    for _ in 0..count {
+        members.push_str("}]")?;
+    }
+    Ok(members)
+}
+
+// Members of a node: so many nodes right below it, each with these members.
+fn children(alloc: Global, count: u32, of_each: &str) -> Result<String, Fail> {
+    let mut members = String::from_str(alloc, r#","nodes":["#)?;
+    for i in 0..count {
+        if i > 0 {
+            members.push_str(",")?;
         }
-        members.push_str("\"}")?;
+        let id = format!(in alloc; "\"{i}\"")?;
+        members.push_str(r#"{"kind":"hood","id":"#)?;
+        members.push_str(id.as_str())?;
+        members.push_str(of_each)?;
+        members.push_str("}")?;
+    }
+    members.push_str("]")?;
+    Ok(members)
+}
+
+// Why a line is refused; none where it is read.
+fn refusal(alloc: Global, line: &[u8]) -> Option<CityError> {
+    read_city(alloc, line).err()
+}
+
+#[test]
+fn limits_of_a_node(rt: HostRuntime) -> Result<(), Fail> {
+    let alloc = rt.alloc();
+    let table = [
+        (attributes(alloc, 64, 0)?, None),
+        (attributes(alloc, 65, 0)?, Some((Which::Attributes, 65))),
+        (attributes(alloc, 1, 995)?, None),
+        (attributes(alloc, 1, 996)?, Some((Which::Local, 1_025))),
+        (attributes(alloc, 66, 996)?, Some((Which::Attributes, 66))),
+        (levels(alloc, 15)?, None),
+        (levels(alloc, 16)?, Some((Which::Depth, 17))),
+        (levels(alloc, 60)?, Some((Which::Depth, 61))),
+        (children(alloc, 2_000, "")?, None),
+        (children(alloc, 2_001, "")?, Some((Which::Children, 2_001))),
+    ];
+    for (at, (members, limit)) in table.iter().enumerate() {
         let line = city_with(alloc, members.as_str())?;
-        assert_eq!(rt; is_city(alloc, line.as_str())?, is, "with {length}");
+        let error = match limit {
+            Some((which, count)) => Some(CityError::CityLimit {
+                which: *which,
+                count: *count,
+            }),
+            None => None,
+        };
+        assert_eq!(rt; refusal(alloc, line.as_bytes()), error, "at {at}");
     }
     Ok(())
 }
 
 #[test]
-fn limit_of_levels(rt: HostRuntime) -> Result<(), Fail> {
+fn limit_of_nodes(rt: HostRuntime) -> Result<(), Fail> {
     let alloc = rt.alloc();
-    for (levels, is) in [(16, true), (17, false)] {
-        let mut members = String::new(alloc);
-        for _ in 1..levels {
-            members.push_str(r#","nodes":[{"kind":"hood","id":"n""#)?;
-        }
-        for _ in 1..levels {
-            members.push_str("}]")?;
-        }
+    let most = children(alloc, 1_999, "")?;
+    let few = children(alloc, 9, most.as_str())?;
+    let many = children(alloc, 10, most.as_str())?;
+    let wide = children(alloc, 20_000, "")?;
+    let table = [(few, None), (many, Some(20_001)), (wide, Some(20_001))];
+    for (at, (members, nodes)) in table.iter().enumerate() {
         let line = city_with(alloc, members.as_str())?;
-        assert_eq!(rt; is_city(alloc, line.as_str())?, is, "with {levels}");
+        let error = match nodes {
+            Some(count) => Some(CityError::CityLimit {
+                which: Which::Nodes,
+                count: *count,
+            }),
+            None => None,
+        };
+        assert_eq!(rt; refusal(alloc, line.as_bytes()), error, "at {at}");
+    }
+    Ok(())
+}
+
+#[test]
+fn limit_of_the_line(rt: HostRuntime) -> Result<(), Fail> {
+    let alloc = rt.alloc();
+    let mut line = Vec::with_capacity(alloc, 4_194_305)?;
+    for byte in CITY.as_bytes() {
+        line.push(*byte)?;
+    }
+    line.resize(4_194_304, b' ')?;
+    assert_eq!(rt; refusal(alloc, &line), None);
+    line.push(b' ')?;
+    let limit = CityError::CityLimit {
+        which: Which::Line,
+        count: 4_194_305,
+    };
+    assert_eq!(rt; refusal(alloc, &line), Some(limit));
+    line.clear();
+    line.resize(4_194_305, b'[')?;
+    assert_eq!(rt; refusal(alloc, &line), Some(limit));
+    Ok(())
+}
+
+#[test]
+fn the_form_before_the_limits(rt: HostRuntime) -> Result<(), Fail> {
+    let alloc = rt.alloc();
+    let shape = CityError::BadCity {
+        why: CityWhy::Shape,
+    };
+    let deep = levels(alloc, 16)?;
+    let wide = children(alloc, 2_001, "")?;
+    let many = attributes(alloc, 65, 0)?;
+    let long = attributes(alloc, 1, 996)?;
+    let table = [
+        (deep.as_str(), r#","plain":[]"#),
+        (deep.as_str(), r#","attrs":{"id":"x"}"#),
+        (wide.as_str(), r#","attrs":{"a":1}"#),
+        (
+            many.as_str(),
+            r#","nodes":[{"kind":"hood","id":"1"},{"kind":"hood","id":"1"}]"#,
+        ),
+        (long.as_str(), r#","nodes":[{"kind":"space","id":"1"}]"#),
+    ];
+    for (at, (past, fault)) in table.iter().enumerate() {
+        let mut members = String::from_str(alloc, past)?;
+        members.push_str(fault)?;
+        let line = city_with(alloc, members.as_str())?;
+        assert_eq!(rt; refusal(alloc, line.as_bytes()), Some(shape), "at {at}");
+    }
+    Ok(())
+}
+
+#[test]
+fn no_json(rt: HostRuntime) -> Result<(), Fail> {
+    let alloc = rt.alloc();
+    let table = [
+        b"".as_slice(),
+        b"{".as_slice(),
+        b"[1e400]".as_slice(),
+        b"\xff".as_slice(),
+        b"[] []".as_slice(),
+    ];
+    for (at, line) in table.iter().enumerate() {
+        assert_eq!(rt; refusal(alloc, line), Some(CityError::NotJson), "at {at}");
     }
     Ok(())
 }

@@ -1,4 +1,4 @@
-use Rattle.std.proofs.Common.{◌≡◌, List, map, arith, sym, ◌∙◌, subst, ap, string_cmp}
+use Rattle.std.proofs.Common.{◌≡◌, List, map, sym, ◌∙◌, subst, ap, string_cmp}
 use Rattle.std.specs.Map.Iter.{deref_pair}
 use Rattle.std.specs.Map.{keys_of}
 use Rattle.std.specs.List.Sorted.{IsStrictlySortedBy}
@@ -9,16 +9,13 @@ use Rattle.serde_json.specs.View.{members_view}
 use Rattle.serde_json.proofs.Views.{Entry}
 use Rattle.iris_json.specs.CityForm.{IsAttrName}
 use Rattle.iris_tree.specs.LocalText.{attrs_members}
-use Rattle.iris_json.proofs.AttrReading.{same_error, attr_step, turn, attrs_len, attrs_same, attr_here, names_rise, names_of, texts_of}
+use Rattle.iris_json.proofs.AttrReading.{same_error, attr_step, turn, attrs_same, attr_here, names_rise, names_of, texts_of}
 use Rattle.iris_json.proofs.node.read_members.Goals as goal
-
-pub returns-then-len-gt-MOST_ATTRS-clause-only : goal.returns-then-len-gt-MOST_ATTRS-clause-only
-returns-then-len-gt-MOST_ATTRS-clause-only c pairs is are = omega (arith, attrs_len c.args.members.now.entries pairs is, are.few, c.len.ensures.len, c.if-len-gt-MOST_ATTRS.true)
 
 pub returns-in_err-tag-clause-only : goal.returns-in_err-tag-clause-only
 returns-in_err-tag-clause-only c pairs is are =
     let whole = turn c.args.members.now.entries c.loop-name.yielded _ _ _ _ _ c.into_iter-name-iterator.ensures.into_iter_gives.0 c.loop-name.yielded_by c.in-Some.is c.next.ensures.steps in
-    let here = attr_here (map deref_pair c.loop-name.yielded) (deref_pair (c.in-Some.name, c.in-Some.value)) c.next.new.self pairs (ap members_view (sym whole) ∙ is) are.named in
+    let here = attr_here (map deref_pair c.loop-name.yielded) (deref_pair (c.in-Some.name, c.in-Some.value)) c.next.new.self pairs (ap members_view (sym whole) ∙ is) are in
     let p = err_from_is_err_and c.from_residual.result c.from_residual.ensures.1 in
     rw (p.1, p.2) (same_error _ _ pairs (c.in_err-tag.ensures.only here.0 (subst IsAttrName (sym c.as_str.ensures.value) here.1) here.2))
 
@@ -32,7 +29,7 @@ pub returns-clause-found : goal.returns-clause-found
 returns-clause-found c =
     let end = iter_end deref_pair _ _ _ _ _ _ c.into_iter-name-iterator.ensures.into_iter_gives.0 c.loop-name.yielded_by c.in-None.is c.next.ensures.steps in
     let all : members_view c.args.members.now.entries ≡ attrs_members c.loop-name.attrs = ap members_view (sym end.0) ∙ c.loop-name.invariant.0 in
-    (all, record { few = omega (arith, attrs_len c.args.members.now.entries c.loop-name.attrs all, c.len.ensures.len, c.if-len-gt-MOST_ATTRS.false); named = names_of c.loop-name.attrs c.loop-name.invariant.1 })
+    (all, names_of c.loop-name.attrs c.loop-name.invariant.1)
 
 pub returns-clause-texts : goal.returns-clause-texts
 returns-clause-texts c =

@@ -1,0 +1,54 @@
+-- The limits of a city's nodes: how much of each a tree has, and the first that is passed.
+use Rattle.std.specs.Prelude.{ℕ, suc, max, nat_lt, length, Option, Some, None, if◌then◌else◌}
+use Rattle.iris_tree.specs.LocalText.{local_text}
+use Rattle.iris_tree.specs.NodeCode.{size_of}
+use Rattle.iris_tree.specs.TextLen.{saturated}
+use Rattle.iris_tree.specs.Universe.{Node, node, Nodes, no_nodes, nodes, local_of, children_of}
+use Rattle.iris_json.specs.declared.out.Which.{Which}
+use Rattle.iris_json.specs.declared.out.Which.TheVariants.{Nodes as nodes_limit, Depth, Children, Attributes, Local as local_limit}
+
+-- the labels of the longest name of a node of the tree
+abbrev mutual
+  pub levels_of : Node → ℕ
+  levels_of (node label local below) = suc (levels_below below)
+
+  pub levels_below : Nodes → ℕ
+  levels_below no_nodes = 0
+  levels_below (nodes n ns) = max (levels_of n) (levels_below ns)
+
+-- the greatest count of a node of the tree
+abbrev mutual
+  pub most_of : (Node → ℕ) → Node → ℕ
+  most_of count (node label local below) = max (count (node label local below)) (most_below count below)
+
+  pub most_below : (Node → ℕ) → Nodes → ℕ
+  most_below count no_nodes = 0
+  most_below count (nodes n ns) = max (most_of count n) (most_below count ns)
+
+-- ---- of one node
+
+abbrev pub count_children : Node → ℕ
+count_children n = length (children_of n)
+
+abbrev pub count_attributes : Node → ℕ
+count_attributes n = length ((local_of n).attrs)
+
+-- the bytes of its canonical local information
+abbrev pub count_local : Node → ℕ
+count_local n = length (local_text (local_of n))
+
+-- ---- of a whole tree
+
+-- a limit and the count, where it is passed, or else what comes later
+abbrev pub above : Which → ℕ → ℕ → Option (Which × ℕ) → Option (Which × ℕ)
+above which limit count later = if nat_lt limit count then Some (which, count) else later
+
+-- the first limit of a city's nodes that is passed, and the greatest count found, as a `u64` tells it
+abbrev pub passed : Node → Option (Which × ℕ)
+passed tree =
+    above nodes_limit 20000 (saturated (size_of tree))
+    (above Depth 16 (saturated (levels_of tree))
+    (above Children 2000 (saturated (most_of count_children tree))
+    (above Attributes 64 (saturated (most_of count_attributes tree))
+    (above local_limit 1024 (saturated (most_of count_local tree))
+    None))))

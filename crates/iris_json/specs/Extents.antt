@@ -1,0 +1,43 @@
+-- How large a tree is, as it is measured, and what the reader of a city line has read before.
+use Rattle.std.specs.Prelude.{◌≡◌, ℕ, ◌+◌, max, List, Option, None, Result, Ok, Err}
+use Rattle.iris_tree.specs.NodeCode.{size_of}
+use Rattle.iris_tree.specs.TextLen.{saturated}
+use Rattle.iris_tree.specs.Universe.{Node}
+use Rattle.iris_json.specs.declared.city.FormError.{FormError}
+use Rattle.iris_json.specs.declared.city.FormError.TheVariants.{Shape, Memory}
+use Rattle.iris_json.specs.declared.city_line.Parts.{Parts}
+use Rattle.iris_json.specs.declared.extent.Extent.{Extent}
+use Rattle.iris_json.specs.declared.out.Which.{Which}
+use Rattle.iris_json.specs.declared.out.Which.TheVariants.{Nodes, Depth, Children, Attributes, Local}
+use Rattle.iris_json.specs.CityLimits.{levels_of, most_of, count_children, count_attributes, count_local, above}
+
+-- how large a tree is
+abbrev pub extent_of : Node → Extent
+extent_of tree = record {
+  nodes = saturated (size_of tree);
+  labels = saturated (levels_of tree);
+  children = saturated (most_of count_children tree);
+  attributes = saturated (most_of count_attributes tree);
+  local = saturated (most_of count_local tree);
+}
+
+-- how large a tree is with one child more
+abbrev pub with_child : Extent → Extent → Extent
+with_child tree child = record {
+  nodes = saturated (tree.nodes + child.nodes);
+  labels = max tree.labels (saturated (child.labels + 1));
+  children = max tree.children child.children;
+  attributes = max tree.attributes child.attributes;
+  local = max tree.local child.local;
+}
+
+-- the first limit that is passed, and the count
+abbrev pub passed_by : Extent → Option (Which × ℕ)
+passed_by tree =
+    above Nodes 20000 tree.nodes (above Depth 16 tree.labels (above Children 2000 tree.children (above Attributes 64 tree.attributes (above Local 1024 tree.local None))))
+
+-- a reader gives these parts, unless there was no memory
+abbrev pub GivesParts : Result Parts FormError → List (List ℕ) → List ℕ → Node → Type 0
+GivesParts (Ok parts) kinds agent tree = (parts.kinds ≡ kinds) × (parts.agent ≡ agent) × (parts.tree ≡ tree)
+GivesParts (Err Shape) kinds agent tree = ⊥
+GivesParts (Err Memory) kinds agent tree = Unit {0}

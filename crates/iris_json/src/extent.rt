@@ -1,0 +1,80 @@
+//! How large a city is, beside its limits.
+ghost use Rattle.std.specs.Prelude.{◌≡◌};
+ghost use Rattle.iris_json.specs.Extents.{extent_of, with_child, passed_by};
+
+use crate::out::Which;
+use iris_tree::Tree;
+
+const MOST_NODES: u64 = 20_000;
+
+const MOST_LABELS: u64 = 16;
+
+const MOST_CHILDREN: u64 = 2_000;
+
+const MOST_ATTRIBUTES: u64 = 64;
+
+const MOST_LOCAL_BYTES: u64 = 1_024;
+
+/// How much of each a tree has, or `u64::MAX` where it is more.
+#[derive(Clone, Copy, Debug)]
+pub struct Extent {
+    /// The nodes.
+    pub nodes: u64,
+    /// The labels of the longest name.
+    pub labels: u64,
+    /// The most children of a node.
+    pub children: u64,
+    /// The most attributes of a node.
+    pub attributes: u64,
+    /// The bytes of the longest canonical local information of a node.
+    pub local: u64,
+}
+
+impl Extent {
+    /// How large a tree is, by one walk that takes no memory.
+    pub fn of(tree: &Tree) -> Extent
+        ensures { result ≡ extent_of tree.now }
+    {
+        let mut extent = Extent {
+            nodes: 1,
+            labels: 1,
+            children: tree.children().len() as u64,
+            attributes: tree.local().attrs.len() as u64,
+            local: tree.local().text_len(),
+        };
+        for child in tree.children() {
+            extent.add(Extent::of(child));
+        }
+        extent
+    }
+
+    // Counts one child more, with all below it.
+    fn add(&mut self, child: Extent)
+        ensures { self.new ≡ with_child self.old child }
+    {
+        self.nodes = self.nodes.saturating_add(child.nodes);
+        self.labels = self.labels.max(child.labels.saturating_add(1));
+        self.children = self.children.max(child.children);
+        self.attributes = self.attributes.max(child.attributes);
+        self.local = self.local.max(child.local);
+    }
+
+    /// The first limit of a city's nodes that is passed, in the order of the fields, and the count.
+    pub fn passed(&self) -> Option<(Which, u64)>
+        ensures { result ≡ passed_by self.now }
+    {
+        if self.nodes > MOST_NODES {
+            Some((Which::Nodes, self.nodes))
+        } else if self.labels > MOST_LABELS {
+            Some((Which::Depth, self.labels))
+        } else if self.children > MOST_CHILDREN {
+            Some((Which::Children, self.children))
+        } else if self.attributes > MOST_ATTRIBUTES {
+            Some((Which::Attributes, self.attributes))
+        } else if self.local > MOST_LOCAL_BYTES {
+            Some((Which::Local, self.local))
+        } else {
+            None
+        }
+    }
+}
