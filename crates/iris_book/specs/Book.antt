@@ -1,5 +1,6 @@
 -- The book: what was accepted in a city since its start, and what that says of each node.
-use Rattle.std.specs.Prelude.{◌≡◌, ℕ, ◌+◌, ◌*◌, ◌≤◌, nat_le, List, [], ◌∷◌, ◌++◌, length, take, fold, slice_get, All, Option, Some, None, IsSome, IfSome, option_map, option_and_then, Ok, refl, if◌then◌else◌}
+use Rattle.std.specs.Prelude.{◌≡◌, ℕ, ◌+◌, ◌-◌, ◌*◌, ◌≤◌, nat_le, List, [], ◌∷◌, ◌++◌, length, take, fold, slice_get, All, Option, Some, None, IsSome, IfSome, option_map, option_and_then, Ok, refl, if◌then◌else◌}
+use Rattle.std.specs.Option.{option_map_or}
 use Rattle.std.specs.Result.{result_ok}
 use Rattle.std.specs.List.{filter_map}
 use Rattle.std.specs.List.Sorted.{IsNonDecreasingBy}
@@ -89,6 +90,10 @@ value_at h name version = value_of h.start (updates_in h.entries) name version
 -- the newest version of a node, where it is one
 abbrev pub latest : History → List Label → Option ℕ
 latest h name = option_map (λ _. newest h name) (node_at h.start name)
+
+-- the number of the last update of that node, 0 where it has none
+abbrev pub last_number_at : History → List Label → ℕ
+last_number_at h name = option_map_or (λ u. u.no) (slice_get (updates_at h name) (newest h name - 1)) 0
 
 -- what the last of these updates left, or what was there
 abbrev pub left_by : Local → List Update → Local

@@ -5,7 +5,7 @@ ghost use Rattle.iris_base.specs.declared.name.Label.{Label};
 ghost use Rattle.iris_tree.specs.TextLen.{saturated};
 ghost use Rattle.iris_tree.specs.LocalText.{local_text};
 ghost use Rattle.iris_tree.specs.Changes.{changes_text};
-ghost use Rattle.iris_book.specs.Book.{with_entry, updates_at, newest, value_at, latest, today, MayFollow, IsSound, Held, weight};
+ghost use Rattle.iris_book.specs.Book.{with_entry, updates_at, newest, value_at, latest, last_number_at, today, MayFollow, IsSound, Held, weight};
 ghost use Rattle.iris_book.specs.Change.{after_entry, updates_by, KeepsEarlier, without_answers};
 
 use crate::entry::Entry;
@@ -170,6 +170,17 @@ impl Book {
     {
         self.start.find(name)?;
         Some(self.lines.count(name) as u64)
+    }
+
+    /// The number of the last update of that node, as its sender gave it; 0 where it has none.
+    pub fn last_number(&self, name: &Name) -> u64
+        ensures { result ≡ last_number_at self.now.history name.now }
+    {
+        let before = self.lines.count(name).saturating_sub(1);
+        match self.lines.get(name, before) {
+            Some(update) => update.no,
+            None => 0,
+        }
     }
 
     /// Whether the node had that version at that moment, in milliseconds. At the moment of an update it
