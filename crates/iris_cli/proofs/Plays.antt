@@ -1,20 +1,27 @@
 -- The play of a script, line by line, over known bytes.
-use Rattle.std.proofs.Common.{◌≡◌, ◌≢◌, ℕ, ◌+◌, ◌-◌, ◌<◌, ◌≤◌, Bool, false, true, List, [], ◌∷◌, ◌++◌, length, take, refl, ap, sym, ◌∙◌, subst, arith, append_assoc, append-nil, inl, inr, Option, Some, None, Result, Ok, Err, length-append}
+use Rattle.std.proofs.Common.{◌≡◌, ◌≢◌, ℕ, ◌+◌, ◌<◌, ◌≤◌, Bool, false, true, nat_lt, if◌then◌else◌, List, [], ◌∷◌, ◌++◌, length, refl, ap, sym, ◌∙◌, subst, arith, append_assoc, append-nil, inl, inr, Option, Some, None, Result, Ok, Err, length-append}
 use Rattle.std.specs.List.{AllByRecursion, flat_map}
 use Rattle.std.specs.Io.KnownBytes.{Appends, Consumes}
 use Rattle.std.proofs.KnownBytes.{Appends-nil, Appends-trans}
+use Rattle.iris_json.specs.declared.city.CityError.{CityError}
+use Rattle.iris_json.specs.declared.city.CityError.TheVariants as city_errors
+use Rattle.iris_json.specs.declared.line.LineError.{LineError}
+use Rattle.iris_json.specs.declared.line.LineError.TheVariants as line_errors
+use Rattle.iris_json.specs.declared.line.LineWhy.TheVariants as line_whys
 use Rattle.iris_json.specs.declared.out.Why.{Why}
-use Rattle.iris_json.specs.declared.out.Why.TheVariants.{Empty, Truncated, Shape}
+use Rattle.iris_json.specs.declared.out.Why.TheVariants as whys
+use Rattle.iris_json.specs.declared.out.Which.{Which}
 use Rattle.iris_cli.specs.declared.halt.Halt.{Halt}
-use Rattle.iris_cli.specs.declared.halt.Halt.TheVariants.{ReadFault, WriteFault, BadLine, TooLong, Memory}
-use Rattle.iris_cli.specs.declared.session.Event.{Event}
-use Rattle.iris_cli.specs.declared.session.Event.TheVariants as events
-use Rattle.iris_cli.specs.declared.session.Session.{Session}
+use Rattle.iris_cli.specs.declared.halt.Halt.TheVariants.{ReadFault, WriteFault, BadLine, Limit, Memory}
+use Rattle.iris_cli.specs.declared.event.Event.{Event}
+use Rattle.iris_cli.specs.declared.event.Event.TheVariants as events
+use Rattle.iris_cli.specs.Halt.{of_city, of_line}
 use Rattle.iris_cli.specs.Lines.{NoLf, ended}
-use Rattle.iris_cli.specs.Run.{Says, brings, after, Runs, Starts}
-use Rattle.iris_cli.specs.Played.{most_bytes, Fits, DoneSo, IsNoCity, IsFront, IsFault}
-use Rattle.iris_cli.specs.Taken.{TakesNext}
-use Rattle.iris_cli.specs.Stepped.{Refuses, AddsFront, Stepped, IsSoFar, Halts, RanTo}
+use Rattle.iris_cli.specs.Says.{Says, IsToldOf}
+use Rattle.iris_cli.specs.Run.{World, brings, is_posted, after, Runs, Starts}
+use Rattle.iris_cli.specs.Taken.{most_bytes, MayFollow, Passes, TakesNext}
+use Rattle.iris_cli.specs.Played.{room_after, AreLines, DoneSo, BeginsRefused, IsFront, IsFault}
+use Rattle.iris_cli.specs.Stepped.{RefusesCityLine, AddsFront, Stepped, IsSoFar, Halts, RanTo}
 
 -- ---- a line more
 
@@ -26,92 +33,104 @@ all_more : (P : List ℕ → Type 0) (xs : List (List ℕ)) (x : List ℕ) → A
 all_more P [] x h k = (k, tt)
 all_more P (y ∷ xs) x h k = (h.0, all_more P xs x h.1 k)
 
-runs_more : (s : Session) (lines : List (List ℕ)) (written : List ℕ) (now : Session) (line : List ℕ) (event : Event) → Runs s lines written now → Says now.kinds line event
-    → Runs s (lines ++ line ∷ []) (written ++ flat_map ended (brings now event)) (after now event)
-runs_more s [] written now line event h says =
+runs_more : (w : World) (lines : List (List ℕ)) (written : List ℕ) (now : World) (line : List ℕ) (event : Event) → Runs w lines written now → Says now.kinds line event
+    → Runs w (lines ++ line ∷ []) (written ++ flat_map ended (brings now event)) (after now event)
+runs_more w [] written now line event h says =
     let bytes = flat_map ended (brings now event) in
-    subst (λ (t : Session). Runs t (line ∷ []) (written ++ bytes) (after now event)) h.1 (event, [], says, (refl, refl), ap (λ v. v ++ bytes) h.0 ∙ sym (append-nil bytes))
-runs_more s (first ∷ lines) written now line event h says =
+    subst (λ (t : World). Runs t (line ∷ []) (written ++ bytes) (after now event)) h.1 (event, [], says, (refl, refl), ap (λ v. v ++ bytes) h.0 ∙ sym (append-nil bytes))
+runs_more w (first ∷ lines) written now line event h says =
     let bytes = flat_map ended (brings now event) in (
       h.0,
       h.1 ++ bytes,
       h.2,
-      runs_more (after s h.0) lines h.1 now line event h.3 says,
-      ap (λ v. v ++ bytes) h.4 ∙ append_assoc (flat_map ended (brings s h.0)) h.1 bytes,
+      runs_more (after w h.0) lines h.1 now line event h.3 says,
+      ap (λ v. v ++ bytes) h.4 ∙ append_assoc (flat_map ended (brings w h.0)) h.1 bytes,
     )
 
-done_more : (lines : List (List ℕ)) (done : List ℕ) (s : Session) (line : List ℕ) (event : Event) → DoneSo lines done (Some s) → Says s.kinds line event
-    → DoneSo (lines ++ line ∷ []) (done ++ flat_map ended (brings s event)) (Some (after s event))
-done_more [] done s line event h says = absurd h
-done_more (city ∷ lines) done s line event h says = (h.0, h.1, runs_more h.0 lines done s line event h.2 says)
+done_more : (lines : List (List ℕ)) (done : List ℕ) (w : World) (line : List ℕ) (event : Event) → DoneSo lines done (Some w) → Says w.kinds line event
+    → DoneSo (lines ++ line ∷ []) (done ++ flat_map ended (brings w event)) (Some (after w event))
+done_more [] done w line event h says = absurd h
+done_more (city ∷ lines) done w line event h says = (h.0, h.1, runs_more h.0 lines done w line event h.2 says)
 
 -- before the city nothing was done
 nothing_done : (lines : List (List ℕ)) (done : List ℕ) → DoneSo lines done None → (lines ≡ []) × (done ≡ [])
 nothing_done [] done h = (refl, h)
 nothing_done (city ∷ lines) done h = absurd h
 
+lines_more : (lines : List (List ℕ)) (line : List ℕ) (number room less : ℕ) → AreLines lines → number ≡ length lines → room + length (flat_map ended lines) ≡ most_bytes → MayFollow number room line → less + length (ended line) ≡ room
+    → AreLines (lines ++ line ∷ []) × (less + length (flat_map ended (lines ++ line ∷ [])) ≡ most_bytes)
+lines_more lines line number room less are n r f k =
+    let front = flat_map ended lines in
+    let sum : length (flat_map ended (lines ++ line ∷ [])) ≡ length front + length (ended line) = ap length (flat_more ended lines line) ∙ length-append front (ended line) in
+    let size : length (lines ++ line ∷ []) ≡ length lines + 1 = length-append lines (line ∷ []) in
+    let few = f.0 in
+    let total : less + length (flat_map ended (lines ++ line ∷ [])) ≡ most_bytes = omega (arith, sum, k, r) in (
+      record {
+        each = all_more NoLf lines line are.each f.1.0;
+        few = omega (arith, size, few, n);
+        short = omega (arith, total);
+      },
+      total,
+    )
+
 -- ---- lines so far
 
 pub so_start : (now held : Option (List ℕ)) (number room : ℕ) → number ≡ 0 → room ≡ most_bytes → IsSoFar now now held held number room None
 so_start None held number room n r = tt
-so_start (Some text) held number room n r = ([], [], refl, tt, refl, Appends-nil held, n, (omega (arith, r)))
+so_start (Some text) held number room n r = ([], [], refl, record { each = tt; few = omega arith; short = omega arith }, refl, Appends-nil held, n, omega (arith, r))
 
 -- the first line was taken, and not the end
-pub first_taken : (number room less : ℕ) (old new : Option (List ℕ)) (line : List ℕ) (more : Bool) → number ≡ 0 → TakesNext number room old new line less (Ok more) → Consumes old new (ended line) × NoLf line × (less + length (ended line) ≡ room)
-first_taken number room less old new line true n t = t
-first_taken number room less old new line false n t = absurd (let some = t.2 in omega (arith, some, n))
+pub first_taken : (number room at less : ℕ) (old new : Option (List ℕ)) (line : List ℕ) (more : Bool) → number ≡ 0 → TakesNext number room old new line at less (Ok more)
+    → Consumes old new (ended line) × MayFollow number room line × (at ≡ number + 1) × (less + length (ended line) ≡ room)
+first_taken number room at less old new line true n t = t
+first_taken number room at less old new line false n t = absurd (let some = t.2 in omega (arith, some, n))
 
 -- the city line was taken
-pub so_city : (first now next old new : Option (List ℕ)) (number room less : ℕ) (s : Session) (line : List ℕ) → IsSoFar first now old new number room None → Consumes now next (ended line) → NoLf line → less + length (ended line) ≡ room → Starts line s
-    → IsSoFar first next old new (number + 1) less (Some s)
-so_city None now next old new number room less s line h c n k starts = tt
-so_city (Some text) None next old new number room less s line h c n k starts = absurd h
-so_city (Some text) (Some rest) None old new number room less s line h c n k starts = absurd c
-so_city (Some text) (Some rest) (Some more) old new number room less s line h c n k starts =
+pub so_city : (first now next old new : Option (List ℕ)) (number room less : ℕ) (w : World) (line : List ℕ) → IsSoFar first now old new number room None → Consumes now next (ended line) → MayFollow number room line → less + length (ended line) ≡ room → Starts line w
+    → IsSoFar first next old new (number + 1) less (Some w)
+so_city None now next old new number room less w line h c n k starts = tt
+so_city (Some text) None next old new number room less w line h c n k starts = absurd h
+so_city (Some text) (Some rest) None old new number room less w line h c n k starts = absurd c
+so_city (Some text) (Some rest) (Some more) old new number room less w line h c n k starts =
     let none = nothing_done h.0 h.1 h.4 in
-    let counted : number ≡ 0 = h.6 ∙ ap length none.0 in
-    let whole : room ≡ most_bytes = let e = h.7 ∙ refl in let z = ap (λ (v : List (List ℕ)). length (flat_map ended v)) none.0 in omega (arith, e, z) in (
+    let all = lines_more h.0 line number room less h.3 h.6 h.7 n k in
+    let joined = ap (λ (v : List (List ℕ)). v ++ line ∷ []) none.0 in
+    let front = flat_map ended h.0 in (
       line ∷ [],
       [],
-      h.2 ∙ ap (λ (v : List (List ℕ)). flat_map ended v ++ rest) none.0 ∙ c ∙ ap (λ (v : List ℕ). v ++ more) (sym (append-nil (ended line))),
-      (n, tt),
-      (s, starts, (refl, refl)),
+      h.2 ∙ ap (λ (v : List ℕ). front ++ v) c ∙ sym (append_assoc front (ended line) more) ∙ ap (λ (v : List ℕ). v ++ more) (sym (flat_more ended h.0 line) ∙ ap (flat_map ended) joined),
+      subst AreLines joined all.0,
+      (w, starts, (refl, refl)),
       subst (λ (v : List ℕ). Appends old new v) none.1 h.5,
-      ap (λ m. m + 1) counted,
-      ap (λ m. less + m) (ap length (append-nil (ended line))) ∙ k ∙ whole,
+      ap (λ m. m + 1) (h.6 ∙ ap length none.0),
+      subst (λ (v : List (List ℕ)). less + length (flat_map ended v) ≡ most_bytes) joined all.1,
     )
 
 -- a line after it was taken and done
-pub so_line : (first now next old mid new : Option (List ℕ)) (number room less : ℕ) (s : Session) (line : List ℕ) (event : Event) → IsSoFar first now old mid number room (Some s) → Consumes now next (ended line) → NoLf line → less + length (ended line) ≡ room
-    → Says s.kinds line event → Appends mid new (flat_map ended (brings s event)) → IsSoFar first next old new (number + 1) less (Some (after s event))
-so_line None now next old mid new number room less s line event h c n k says a = tt
-so_line (Some text) None next old mid new number room less s line event h c n k says a = absurd h
-so_line (Some text) (Some rest) None old mid new number room less s line event h c n k says a = absurd c
-so_line (Some text) (Some rest) (Some more) old mid new number room less s line event h c n k says a =
+pub so_line : (first now next old mid new : Option (List ℕ)) (number room less : ℕ) (w : World) (line : List ℕ) (event : Event) → IsSoFar first now old mid number room (Some w) → Consumes now next (ended line) → MayFollow number room line
+    → less + length (ended line) ≡ room → Says w.kinds line event → Appends mid new (flat_map ended (brings w event)) → IsSoFar first next old new (number + 1) less (Some (after w event))
+so_line None now next old mid new number room less w line event h c n k says a = tt
+so_line (Some text) None next old mid new number room less w line event h c n k says a = absurd h
+so_line (Some text) (Some rest) None old mid new number room less w line event h c n k says a = absurd c
+so_line (Some text) (Some rest) (Some more) old mid new number room less w line event h c n k says a =
     let front = flat_map ended h.0 in
-    let longer = flat_more ended h.0 line in
-    let sum : length (flat_map ended (h.0 ++ line ∷ [])) ≡ length front + length (ended line) = ap length longer ∙ length-append front (ended line) in (
+    let all = lines_more h.0 line number room less h.3 h.6 h.7 n k in (
       h.0 ++ line ∷ [],
-      h.1 ++ flat_map ended (brings s event),
-      h.2 ∙ ap (λ v. front ++ v) c ∙ sym (ap (λ v. v ++ more) longer ∙ append_assoc front (ended line) more),
-      all_more NoLf h.0 line h.3 n,
-      done_more h.0 h.1 s line event h.4 says,
-      Appends-trans old mid new h.1 (flat_map ended (brings s event)) h.5 a,
+      h.1 ++ flat_map ended (brings w event),
+      h.2 ∙ ap (λ v. front ++ v) c ∙ sym (ap (λ v. v ++ more) (flat_more ended h.0 line) ∙ append_assoc front (ended line) more),
+      all.0,
+      done_more h.0 h.1 w line event h.4 says,
+      Appends-trans old mid new h.1 (flat_map ended (brings w event)) h.5 a,
       ap (λ m. m + 1) h.6 ∙ sym (length-append h.0 (line ∷ [])),
-      omega (arith, sum, k, h.7),
+      all.1,
     )
-
--- a line makes one post at most
-pub one_post : (s : Session) (event : Event) → (after s event).posts ≤ s.posts + 1
-one_post s (events.Query query) = omega arith
-one_post s events.Settle = omega arith
 
 -- ---- where the lines end
 
 -- nothing is a front of what comes next
-pub front_nil : (s : Option Session) (rest : List ℕ) → IsFront s rest []
+pub front_nil : (w : Option World) (rest : List ℕ) → IsFront w rest []
 front_nil None rest = refl
-front_nil (Some s) rest = inl refl
+front_nil (Some w) rest = inl refl
 
 no_lines : (lines : List (List ℕ)) → length lines ≡ 0 → lines ≡ []
 no_lines [] h = refl
@@ -120,89 +139,143 @@ no_lines (line ∷ lines) h = absurd (omega (arith, h))
 some_lines : (lines : List (List ℕ)) → 0 < length lines → lines ≢ []
 some_lines lines h e = let z : length lines ≡ 0 = ap length e in omega (arith, h, z)
 
-ends : (text rest left : List ℕ) (old mid new : Option (List ℕ)) (number room : ℕ) (s : Option Session) (part : List ℕ) (at : ℕ) (result : Result (Unit {0}) Halt) → IsSoFar (Some text) (Some rest) old mid number room s → Appends mid new part
-    → ((lines : List (List ℕ)) → number ≡ length lines → room + length (flat_map ended lines) ≡ most_bytes → Halts lines s rest left part at result) → RanTo (Some text) (Some left) old new at result
-ends text rest left old mid new number room s part at result h a halts =
-    let within : Fits h.0 [] = let e = h.7 in omega (arith, e) in
-    (h.0, rest, s, h.1, part, h.2, h.3, within, h.4, Appends-trans old mid new h.1 part h.5 a, halts h.0 h.6 h.7)
+ends : (text rest left : List ℕ) (old mid new : Option (List ℕ)) (number room : ℕ) (w : Option World) (part : List ℕ) (at : ℕ) (result : Result (Unit {0}) Halt) → IsSoFar (Some text) (Some rest) old mid number room w → Appends mid new part
+    → ((lines : List (List ℕ)) → number ≡ length lines → room ≡ room_after lines → Halts lines w rest left part at result) → RanTo (Some text) (Some left) old new at result
+ends text rest left old mid new number room w part at result h a halts =
+    let r = h.7 in
+    let room_is : room ≡ room_after h.0 = omega (arith, r) in
+    (h.0, rest, w, h.1, part, h.2, h.3, h.4, Appends-trans old mid new h.1 part h.5 a, halts h.0 h.6 room_is)
+
+-- what may follow, by the lines
+follows : (lines : List (List ℕ)) (line : List ℕ) (number room : ℕ) → number ≡ length lines → room ≡ room_after lines → MayFollow number room line → MayFollow (length lines) (room_after lines) line
+follows lines line number room n r f = subst (λ (m : ℕ). MayFollow m (room_after lines) line) n (subst (λ (m : ℕ). MayFollow number m line) r f)
+
+passes : (lines : List (List ℕ)) (front : List ℕ) (number room : ℕ) (which : Which) (count : ℕ) → number ≡ length lines → room ≡ room_after lines → Passes number room front which count → Passes (length lines) (room_after lines) front which count
+passes lines front number room which count n r p = subst (λ (m : ℕ). Passes m (room_after lines) front which count) n (subst (λ (m : ℕ). Passes number m front which count) r p)
 
 -- the reader of the script gives no further line
-pub next_halts : (first now next old new : Option (List ℕ)) (number room less : ℕ) (s : Option Session) (line : List ℕ) (halt : Halt) → IsSoFar first now old new number room s → TakesNext number room now next line less (Err halt)
-    → RanTo first next old new (number + 1) (Err halt)
-next_halts None now next old new number room less s line halt h t = tt
-next_halts (Some text) None next old new number room less s line halt h t = absurd h
-next_halts (Some text) (Some rest) None old new number room less s line ReadFault h t = absurd t.1
-next_halts (Some text) (Some rest) None old new number room less s line WriteFault h t = absurd t
-next_halts (Some text) (Some rest) None old new number room less s line (BadLine Empty) h t = absurd t.0
-next_halts (Some text) (Some rest) None old new number room less s line (BadLine Truncated) h t = absurd t.1
-next_halts (Some text) (Some rest) None old new number room less s line (BadLine Shape) h t = absurd t
-next_halts (Some text) (Some rest) None old new number room less s line TooLong h t = absurd t.1
-next_halts (Some text) (Some rest) None old new number room less s line Memory h t = absurd t.1
-next_halts (Some text) (Some rest) (Some left) old new number room less s line ReadFault h t =
-    ends text rest left old new new number room s [] (number + 1) (Err ReadFault) h (Appends-nil new) (λ lines k r. (t.0, t.1, t.2, refl))
-next_halts (Some text) (Some rest) (Some left) old new number room less s line WriteFault h t = absurd t
-next_halts (Some text) (Some rest) (Some left) old new number room less s line (BadLine Empty) h t =
-    ends text rest left old new new number room s [] (number + 1) (Err (BadLine Empty)) h (Appends-nil new) (λ lines k r. ((no_lines lines (sym k ∙ t.2), t.0 ∙ t.1, t.1, ap (λ m. m + 1) t.2), refl))
-next_halts (Some text) (Some rest) (Some left) old new number room less s line (BadLine Truncated) h t =
-    let same : t.0 ≡ rest = sym (t.1 ∙ ap (λ v. t.0 ++ v) t.5 ∙ append-nil t.0) in
-    ends text rest left old new new number room s [] (number + 1) (Err (BadLine Truncated)) h (Appends-nil new)
-    (λ lines k r. (
-      (subst NoLf same t.2, (λ e. t.3 (same ∙ e)), t.5, (let few = t.4 in let len = ap length same in omega (arith, few, len, r)), ap (λ m. m + 1) k),
+pub next_halts : (first now next old new : Option (List ℕ)) (number room at less : ℕ) (w : Option World) (line : List ℕ) (halt : Halt) → IsSoFar first now old new number room w → TakesNext number room now next line at less (Err halt) → RanTo first next old new at (Err halt)
+next_halts None now next old new number room at less w line halt h t = tt
+next_halts (Some text) None next old new number room at less w line halt h t = absurd h
+next_halts (Some text) (Some rest) None old new number room at less w line ReadFault h t = absurd t.1
+next_halts (Some text) (Some rest) None old new number room at less w line WriteFault h t = absurd t
+next_halts (Some text) (Some rest) None old new number room at less w line (BadLine whys.Empty) h t = absurd t.0
+next_halts (Some text) (Some rest) None old new number room at less w line (BadLine whys.Truncated) h t = absurd t.1
+next_halts (Some text) (Some rest) None old new number room at less w line (BadLine whys.NotJson) h t = absurd t
+next_halts (Some text) (Some rest) None old new number room at less w line (BadLine whys.Shape) h t = absurd t
+next_halts (Some text) (Some rest) None old new number room at less w line (BadLine whys.Name) h t = absurd t
+next_halts (Some text) (Some rest) None old new number room at less w line (BadLine whys.Number) h t = absurd t
+next_halts (Some text) (Some rest) None old new number room at less w line (BadLine whys.Change) h t = absurd t
+next_halts (Some text) (Some rest) None old new number room at less w line (Limit which count) h t = absurd t.1
+next_halts (Some text) (Some rest) None old new number room at less w line Memory h t = absurd t.1
+next_halts (Some text) (Some rest) (Some left) old new number room at less w line ReadFault h t =
+    ends text rest left old new new number room w [] at (Err ReadFault) h (Appends-nil new) (λ lines n r. (t.0, t.1, t.2, refl))
+next_halts (Some text) (Some rest) (Some left) old new number room at less w line WriteFault h t = absurd t
+next_halts (Some text) (Some rest) (Some left) old new number room at less w line (BadLine whys.Empty) h t =
+    ends text rest left old new new number room w [] at (Err (BadLine whys.Empty)) h (Appends-nil new) (λ lines n r. ((no_lines lines (sym n ∙ t.2), t.0 ∙ t.1, t.1, t.3 ∙ ap (λ m. m + 1) t.2), refl))
+next_halts (Some text) (Some rest) (Some left) old new number room at less w line (BadLine whys.Truncated) h t =
+    let same : t.0 ≡ rest = sym (t.1 ∙ ap (λ v. t.0 ++ v) t.4 ∙ append-nil t.0) in
+    ends text rest left old new new number room w [] at (Err (BadLine whys.Truncated)) h (Appends-nil new) (λ lines n r. (
+      (subst (λ (v : List ℕ). MayFollow (length lines) (room_after lines) v) same (follows lines t.0 number room n r t.2), (λ e. t.3 (same ∙ e)), t.4, t.5 ∙ ap (λ m. m + 1) n),
       refl,
     ))
-next_halts (Some text) (Some rest) (Some left) old new number room less s line (BadLine Shape) h t = absurd t
-next_halts (Some text) (Some rest) (Some left) old new number room less s line TooLong h t =
-    ends text rest left old new new number room s [] (number + 1) (Err TooLong) h (Appends-nil new)
-    (λ lines k r. (
-      (t.0, t.1, (let len = t.2 in omega (arith, len, r)), subst (λ (m : ℕ). NoLf (take m t.0)) (let e : room ≡ most_bytes - length (flat_map ended lines) = omega (arith, r) in e) t.3),
-      refl,
-    ))
-next_halts (Some text) (Some rest) (Some left) old new number room less s line Memory h t =
-    ends text rest left old new new number room s [] (number + 1) (Err Memory) h (Appends-nil new) (λ lines k r. front_nil s rest)
+next_halts (Some text) (Some rest) (Some left) old new number room at less w line (BadLine whys.NotJson) h t = absurd t
+next_halts (Some text) (Some rest) (Some left) old new number room at less w line (BadLine whys.Shape) h t = absurd t
+next_halts (Some text) (Some rest) (Some left) old new number room at less w line (BadLine whys.Name) h t = absurd t
+next_halts (Some text) (Some rest) (Some left) old new number room at less w line (BadLine whys.Number) h t = absurd t
+next_halts (Some text) (Some rest) (Some left) old new number room at less w line (BadLine whys.Change) h t = absurd t
+next_halts (Some text) (Some rest) (Some left) old new number room at less w line (Limit which count) h t =
+    ends text rest left old new new number room w [] at (Err (Limit which count)) h (Appends-nil new) (λ lines n r. (inl (t.0, t.1, passes lines t.0 number room which count n r t.2), refl))
+next_halts (Some text) (Some rest) (Some left) old new number room at less w line Memory h t =
+    ends text rest left old new new number room w [] at (Err Memory) h (Appends-nil new) (λ lines n r. front_nil w rest)
 
 -- the script ended after a line
-pub next_ends : (first now next old new : Option (List ℕ)) (number room less at : ℕ) (s : Option Session) (line : List ℕ) → IsSoFar first now old new number room s → TakesNext number room now next line less (Ok false) → RanTo first next old new at (Ok tt)
-next_ends None now next old new number room less at s line h t = tt
-next_ends (Some text) None next old new number room less at s line h t = absurd h
-next_ends (Some text) (Some rest) None old new number room less at s line h t = absurd t.0
-next_ends (Some text) (Some rest) (Some left) old new number room less at s line h t =
-    ends text rest left old new new number room s [] at (Ok tt) h (Appends-nil new) (λ lines k r. (some_lines lines (subst (λ m. 0 < m) k t.2), t.0 ∙ t.1, t.1, refl))
+pub next_ends : (first now next old new : Option (List ℕ)) (number room at less : ℕ) (w : Option World) (line : List ℕ) → IsSoFar first now old new number room w → TakesNext number room now next line at less (Ok false) → RanTo first next old new at (Ok tt)
+next_ends None now next old new number room at less w line h t = tt
+next_ends (Some text) None next old new number room at less w line h t = absurd h
+next_ends (Some text) (Some rest) None old new number room at less w line h t = absurd t.0
+next_ends (Some text) (Some rest) (Some left) old new number room at less w line h t =
+    ends text rest left old new new number room w [] at (Ok tt) h (Appends-nil new) (λ lines n r. (some_lines lines (subst (λ m. 0 < m) n t.2), t.0 ∙ t.1, t.1, refl))
 
-fits : (lines : List (List ℕ)) (line : List ℕ) (room less : ℕ) → room + length (flat_map ended lines) ≡ most_bytes → less + length (ended line) ≡ room → Fits lines (ended line)
-fits lines line room less r k = omega (arith, r, k)
+-- ---- a line that is refused
+
+-- it has bytes and an LF, so this is not what is told
+told_city : (error : CityError) (why : Why) → of_city error ≡ BadLine why → (why ≢ whys.Empty) × (why ≢ whys.Truncated)
+told_city city_errors.NotJson why e = ((λ f. cc), (λ f. cc))
+told_city (city_errors.BadCity bad) why e = ((λ f. cc), (λ f. cc))
+told_city (city_errors.CityLimit which count) why e = ((λ f. cc), (λ f. cc))
+told_city city_errors.Memory why e = ((λ f. cc), (λ f. cc))
+
+told_line : (error : LineError) (why : Why) → of_line error ≡ BadLine why → (why ≢ whys.Empty) × (why ≢ whys.Truncated)
+told_line line_errors.NotJson why e = ((λ f. cc), (λ f. cc))
+told_line (line_errors.BadLine line_whys.Shape) why e = ((λ f. cc), (λ f. cc))
+told_line (line_errors.BadLine line_whys.Name) why e = ((λ f. cc), (λ f. cc))
+told_line (line_errors.BadLine line_whys.Number) why e = ((λ f. cc), (λ f. cc))
+told_line (line_errors.BadLine line_whys.Change) why e = ((λ f. cc), (λ f. cc))
+told_line line_errors.Memory why e = ((λ f. cc), (λ f. cc))
+
+told_event : (kinds : List (List ℕ)) (line : List ℕ) (why : Why) → IsToldOf kinds line (BadLine why) → (why ≢ whys.Empty) × (why ≢ whys.Truncated)
+told_event kinds line why (inl t) = told_line t.0 why t.2
+told_event kinds line why (inr t) = let e = t.1 in ((λ f. cc), (λ f. cc))
+
+is_fault : (lines : List (List ℕ)) (w : Option World) (rest left : List ℕ) (at : ℕ) (why : Why) → (why ≢ whys.Empty) × (why ≢ whys.Truncated) → BeginsRefused lines w rest left (BadLine why) → at ≡ length lines + 1 → IsFault lines w rest left at why
+is_fault lines w rest left at whys.Empty t b e = absurd (t.0 refl)
+is_fault lines w rest left at whys.Truncated t b e = absurd (t.1 refl)
+is_fault lines w rest left at whys.NotJson t b e = (b, e)
+is_fault lines w rest left at whys.Shape t b e = (b, e)
+is_fault lines w rest left at whys.Name t b e = (b, e)
+is_fault lines w rest left at whys.Number t b e = (b, e)
+is_fault lines w rest left at whys.Change t b e = (b, e)
 
 -- the first line is no city
-pub start_halts : (first now next old new : Option (List ℕ)) (number room less : ℕ) (line : List ℕ) (halt : Halt) → IsSoFar first now old new number room None → Consumes now next (ended line) → NoLf line → less + length (ended line) ≡ room → Refuses (IsNoCity line) halt
-    → RanTo first next old new (number + 1) (Err halt)
-start_halts None now next old new number room less line halt h c n l f = tt
-start_halts (Some text) None next old new number room less line halt h c n l f = absurd h
-start_halts (Some text) (Some rest) None old new number room less line halt h c n l f = absurd c
-start_halts (Some text) (Some rest) (Some left) old new number room less line ReadFault h c n l f = absurd f
-start_halts (Some text) (Some rest) (Some left) old new number room less line WriteFault h c n l f = absurd f
-start_halts (Some text) (Some rest) (Some left) old new number room less line (BadLine why) h c n l f =
-    ends text rest left old new new number room None [] (number + 1) (Err (BadLine why)) h (Appends-nil new)
-    (λ lines k r. (subst (λ (w : Why). IsFault lines None rest left (number + 1) w) (sym f.0) (line, c, n, f.1, fits lines line room less r l, ap (λ m. m + 1) k), refl))
-start_halts (Some text) (Some rest) (Some left) old new number room less line TooLong h c n l f = absurd f
-start_halts (Some text) (Some rest) (Some left) old new number room less line Memory h c n l f =
-    ends text rest left old new new number room None [] (number + 1) (Err Memory) h (Appends-nil new) (λ lines k r. refl)
+pub start_halts : (first now next old new : Option (List ℕ)) (number room at : ℕ) (line : List ℕ) (halt : Halt) → IsSoFar first now old new number room None → Consumes now next (ended line) → MayFollow number room line → at ≡ number + 1 → RefusesCityLine line halt
+    → RanTo first next old new at (Err halt)
+start_halts None now next old new number room at line halt h c n l f = tt
+start_halts (Some text) None next old new number room at line halt h c n l f = absurd h
+start_halts (Some text) (Some rest) None old new number room at line halt h c n l f = absurd c
+start_halts (Some text) (Some rest) (Some left) old new number room at line ReadFault h c n l f = absurd f
+start_halts (Some text) (Some rest) (Some left) old new number room at line WriteFault h c n l f = absurd f
+start_halts (Some text) (Some rest) (Some left) old new number room at line (BadLine why) h c n l f =
+    ends text rest left old new new number room None [] at (Err (BadLine why)) h (Appends-nil new)
+    (λ lines k r. (is_fault lines None rest left at why (told_city f.1.0 why f.1.2) (line, c, follows lines line number room k r n, f) (l ∙ ap (λ m. m + 1) k), refl))
+start_halts (Some text) (Some rest) (Some left) old new number room at line (Limit which count) h c n l f =
+    ends text rest left old new new number room None [] at (Err (Limit which count)) h (Appends-nil new) (λ lines k r. (inr (line, c, follows lines line number room k r n, f), refl))
+start_halts (Some text) (Some rest) (Some left) old new number room at line Memory h c n l f =
+    ends text rest left old new new number room None [] at (Err Memory) h (Appends-nil new) (λ lines k r. refl)
 
 -- a front of what a line brings about was added
-adds_front : (text rest left : List ℕ) (old mid new : Option (List ℕ)) (number room : ℕ) (s : Session) (line : List ℕ) (halt : Halt) → IsSoFar (Some text) (Some rest) old mid number room (Some s) → rest ≡ ended line ++ left → NoLf line → AddsFront s line mid new
-    → ((lines : List (List ℕ)) (part : List ℕ) → IsFront (Some s) rest part → Halts lines (Some s) rest left part (number + 1) (Err halt)) → RanTo (Some text) (Some left) old new (number + 1) (Err halt)
-adds_front text rest left old mid new number room s line halt h c n (inl a) f = ends text rest left old mid new number room (Some s) [] (number + 1) (Err halt) h a (λ lines k r. f lines [] (inl refl))
-adds_front text rest left old mid new number room s line halt h c n (inr p) f =
-    ends text rest left old mid new number room (Some s) p.2.0 (number + 1) (Err halt) h p.2.3 (λ lines k r. f lines p.2.0 (inr (line, left, p.0, p.2.1, c, n, p.1, p.2.2)))
+adds_front : (text rest left : List ℕ) (old mid new : Option (List ℕ)) (number room at : ℕ) (w : World) (line : List ℕ) (halt : Halt) → IsSoFar (Some text) (Some rest) old mid number room (Some w) → rest ≡ ended line ++ left → NoLf line → AddsFront w line mid new
+    → ((lines : List (List ℕ)) (part : List ℕ) → IsFront (Some w) rest part → Halts lines (Some w) rest left part at (Err halt)) → RanTo (Some text) (Some left) old new at (Err halt)
+adds_front text rest left old mid new number room at w line halt h c n (inl a) f = ends text rest left old mid new number room (Some w) [] at (Err halt) h a (λ lines k r. f lines [] (inl refl))
+adds_front text rest left old mid new number room at w line halt h c n (inr p) f =
+    ends text rest left old mid new number room (Some w) p.2.0 at (Err halt) h p.2.3 (λ lines k r. f lines p.2.0 (inr (line, left, p.0, p.2.1, c, n, p.1, p.2.2)))
 
 -- a line after it is refused, or what it brings about can't be written whole
-pub run_halts : (first now next old mid new : Option (List ℕ)) (number room less : ℕ) (s t : Session) (line : List ℕ) (halt : Halt) → IsSoFar first now old mid number room (Some s) → Consumes now next (ended line) → NoLf line → less + length (ended line) ≡ room → Stepped s t line mid new (Err halt)
-    → RanTo first next old new (number + 1) (Err halt)
-run_halts None now next old mid new number room less s t line halt h c n l f = tt
-run_halts (Some text) None next old mid new number room less s t line halt h c n l f = absurd h
-run_halts (Some text) (Some rest) None old mid new number room less s t line halt h c n l f = absurd c
-run_halts (Some text) (Some rest) (Some left) old mid new number room less s t line ReadFault h c n l f = absurd f
-run_halts (Some text) (Some rest) (Some left) old mid new number room less s t line WriteFault h c n l f = adds_front text rest left old mid new number room s line WriteFault h c n f (λ lines part w. w)
-run_halts (Some text) (Some rest) (Some left) old mid new number room less s t line (BadLine why) h c n l f =
-    ends text rest left old mid new number room (Some s) [] (number + 1) (Err (BadLine why)) h f.2
-    (λ lines k r. (subst (λ (w : Why). IsFault lines (Some s) rest left (number + 1) w) (sym f.0) (line, c, n, f.1, fits lines line room less r l, ap (λ m. m + 1) k), refl))
-run_halts (Some text) (Some rest) (Some left) old mid new number room less s t line TooLong h c n l f = absurd f
-run_halts (Some text) (Some rest) (Some left) old mid new number room less s t line Memory h c n l f = adds_front text rest left old mid new number room s line Memory h c n f (λ lines part w. w)
+pub run_halts : (first now next old mid new : Option (List ℕ)) (number room at : ℕ) (w v : World) (line : List ℕ) (halt : Halt) → IsSoFar first now old mid number room (Some w) → Consumes now next (ended line) → MayFollow number room line → at ≡ number + 1
+    → Stepped w v line mid new (Err halt) → RanTo first next old new at (Err halt)
+run_halts None now next old mid new number room at w v line halt h c n l f = tt
+run_halts (Some text) None next old mid new number room at w v line halt h c n l f = absurd h
+run_halts (Some text) (Some rest) None old mid new number room at w v line halt h c n l f = absurd c
+run_halts (Some text) (Some rest) (Some left) old mid new number room at w v line ReadFault h c n l f = absurd f
+run_halts (Some text) (Some rest) (Some left) old mid new number room at w v line WriteFault h c n l f = adds_front text rest left old mid new number room at w line WriteFault h c n.1.0 f (λ lines part x. x)
+run_halts (Some text) (Some rest) (Some left) old mid new number room at w v line (BadLine why) h c n l f =
+    ends text rest left old mid new number room (Some w) [] at (Err (BadLine why)) h f.2
+    (λ lines k r. (is_fault lines (Some w) rest left at why (told_event w.kinds line why f.1) (line, c, follows lines line number room k r n, (f.0, f.1)) (l ∙ ap (λ m. m + 1) k), refl))
+run_halts (Some text) (Some rest) (Some left) old mid new number room at w v line (Limit which count) h c n l f = absurd f
+run_halts (Some text) (Some rest) (Some left) old mid new number room at w v line Memory h c n l f = adds_front text rest left old mid new number room at w line Memory h c n.1.0 f (λ lines part x. x)
+
+-- ---- the numbers of posts and requests
+
+-- a line makes one request at most, and no more posts than requests
+abbrev Counts : World → World → Type 0
+Counts w v = (v.requests ≤ w.requests + 1) × (v.posts ≤ v.requests)
+
+by_choice : (b : Bool) (w v u : World) → Counts w v → Counts w u → Counts w (if b then v else u)
+by_choice true w v u h k = h
+by_choice false w v u h k = k
+
+pub one_request : (w : World) (event : Event) → w.posts ≤ w.requests → Counts w (after w event)
+one_request w (events.Post s) h = by_choice (is_posted w s) w _ _ (omega arith, omega (arith, h)) (omega arith, omega (arith, h))
+one_request w (events.Audit query) h = (omega arith, omega (arith, h))
+one_request w (events.Now at) h = by_choice (nat_lt at w.held.now) w _ _ (omega arith, h) (omega arith, h)
+one_request w events.Settle h = (omega arith, h)

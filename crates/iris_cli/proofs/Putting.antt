@@ -1,8 +1,6 @@
 -- Bytes that are put one part after another.
-use Rattle.std.proofs.Common.{◌≡◌, ℕ, suc, ◌+◌, ◌<◌, List, [], ◌∷◌, ◌++◌, length, map, take, drop, get_or, ap, sym, ◌∙◌, subst, append_assoc, append-nil, add-one, drop-cons, refl, Option, Result, Ok, Err}
+use Rattle.std.proofs.Common.{◌≡◌, ℕ, List, [], ◌∷◌, ◌++◌, ap, sym, ◌∙◌, subst, append_assoc, append-nil, refl, Option, Result, Ok, Err}
 use Rattle.std.specs.List.{flat_map}
-use Rattle.std.proofs.Math.Seq.{take-suc}
-use Rattle.std.proofs.lemmas.List.{take-append-drop, map-append}
 use Rattle.std.proofs.lemmas.Grind.{flat_map-append}
 use Rattle.std.specs.Io.KnownBytes.{Appends}
 use Rattle.std.proofs.KnownBytes.{Appends-nil, Appends-trans}
@@ -23,34 +21,7 @@ pub puts_then : (old mid new : Option (List ℕ)) (result : Result (Unit {0}) Ha
 puts_then old mid new (Ok u) first more a p = Appends-trans old mid new first more a p
 puts_then old mid new (Err halt) first more a p = (first ++ p.0, p.1, ap (λ v. first ++ v) p.2 ∙ sym (append_assoc first p.0 p.1), Appends-trans old mid new first p.0 a p.3)
 
--- ---- lines of a list
-
-module _ {X : Type 0} (text : X → List ℕ) where
-  lines_until : (xs : List X) (k : ℕ) → flat_map ended (map text xs) ≡ flat_map ended (map text (take k xs)) ++ flat_map ended (map text (drop k xs))
-  lines_until xs k =
-      ap (λ (ys : List X). flat_map ended (map text ys)) (sym (take-append-drop k xs)) ∙ ap (flat_map ended) (map-append text (take k xs) (drop k xs)) ∙ flat_map-append ended (map text (take k xs)) (map text (drop k xs))
-
-  -- the lines of the first k were put, and what follows gave an error
-  pub puts_among : (xs : List X) (k : ℕ) (old mid new : Option (List ℕ)) (halt : Halt) → Appends old mid (flat_map ended (map text (take k xs))) → Puts mid new (Err halt) (flat_map ended (map text (drop k xs))) → Puts old new (Err halt) (flat_map ended (map text xs))
-  puts_among xs k old mid new halt a p =
-      subst (λ (v : List ℕ). Puts old new (Err halt) v) (sym (lines_until xs k)) (puts_then old mid new (Err halt) (flat_map ended (map text (take k xs))) (flat_map ended (map text (drop k xs))) a p)
-
-  -- the line of the next one gave an error
-  pub puts_next : (xs : List X) (k : ℕ) (x : X) (old new : Option (List ℕ)) (halt : Halt) → k < length xs → x ≡ get_or xs k x → Puts old new (Err halt) (ended (text x)) → Puts old new (Err halt) (flat_map ended (map text (drop k xs)))
-  puts_next xs k x old new halt within is p =
-      let split : drop k xs ≡ x ∷ drop (suc k) xs = drop-cons xs k x within ∙ ap (λ (y : X). y ∷ drop (suc k) xs) (sym is) in
-      subst (λ (ys : List X). Puts old new (Err halt) (flat_map ended (map text ys))) (sym split) (puts_before old new halt (ended (text x)) (flat_map ended (map text (drop (suc k) xs))) p)
-
-  -- the line of the next one was put too
-  pub added_next : (xs : List X) (k : ℕ) (x : X) (old mid new : Option (List ℕ)) → k < length xs → x ≡ get_or xs k x → Appends old mid (flat_map ended (map text (take k xs))) → Appends mid new (ended (text x)) → Appends old new (flat_map ended (map text (take (k + 1) xs)))
-  added_next xs k x old mid new within is a b =
-      let front = flat_map ended (map text (take k xs)) in
-      let split : take (k + 1) xs ≡ take k xs ++ x ∷ [] = ap (λ m. take m xs) (add-one k) ∙ take-suc xs k x within ∙ ap (λ (y : X). take k xs ++ y ∷ []) (sym is) in
-      let joined : flat_map ended (map text (take (k + 1) xs)) ≡ front ++ ended (text x) =
-      ap (λ (ys : List X). flat_map ended (map text ys)) split ∙ ap (flat_map ended) (map-append text (take k xs) (x ∷ [])) ∙ flat_map-append ended (map text (take k xs)) (text x ∷ []) ∙ ap (λ v. front ++ v) (append-nil (ended (text x))) in
-      subst (λ (v : List ℕ). Appends old new v) (sym joined) (Appends-trans old mid new front (ended (text x)) a b)
-
-lines_and : (lines : List (List ℕ)) (line : List ℕ) → flat_map ended (lines ++ line ∷ []) ≡ flat_map ended lines ++ ended line
+pub lines_and : (lines : List (List ℕ)) (line : List ℕ) → flat_map ended (lines ++ line ∷ []) ≡ flat_map ended lines ++ ended line
 lines_and lines line = flat_map-append ended lines (line ∷ []) ∙ ap (λ v. flat_map ended lines ++ v) (append-nil (ended line))
 
 -- lines gave an error, so one more behind them is not put

@@ -1,6 +1,9 @@
 -- Why the play of a script goes no further, by the errors of what it calls.
 use Rattle.std.specs.Prelude.{◌≡◌, List, [], ◌∷◌, ℕ, codes}
-use Rattle.iris_json.specs.declared.out.Why.TheVariants.{Shape}
+use Rattle.iris_json.specs.declared.out.Why.{Why}
+use Rattle.iris_json.specs.declared.out.Why.TheVariants as whys
+use Rattle.iris_json.specs.declared.line.LineWhy.{LineWhy}
+use Rattle.iris_json.specs.declared.line.LineWhy.TheVariants as line_whys
 use Rattle.iris_json.specs.declared.city.CityError.{CityError}
 use Rattle.iris_json.specs.declared.city.CityError.TheVariants as city
 use Rattle.iris_json.specs.declared.line.LineError.{LineError}
@@ -12,7 +15,7 @@ use Rattle.iris_cli.specs.declared.source.SourceError.TheVariants as source
 use Rattle.iris_cli.specs.declared.sink.SinkError.{SinkError}
 use Rattle.iris_cli.specs.declared.sink.SinkError.TheVariants as sink
 use Rattle.iris_cli.specs.declared.halt.Halt.{Halt}
-use Rattle.iris_cli.specs.declared.halt.Halt.TheVariants.{ReadFault, WriteFault, BadLine, TooLong, Memory}
+use Rattle.iris_cli.specs.declared.halt.Halt.TheVariants.{ReadFault, WriteFault, BadLine, Limit, Memory}
 
 abbrev pub of_source : SourceError → Halt
 of_source source.Failed = ReadFault
@@ -23,15 +26,25 @@ of_sink sink.Failed = WriteFault
 of_sink sink.Memory = Memory
 
 abbrev pub of_city : CityError → Halt
-of_city (city.BadCity why) = BadLine Shape
+of_city city.NotJson = BadLine whys.NotJson
+of_city (city.BadCity why) = BadLine whys.Shape
+of_city (city.CityLimit which count) = Limit which count
 of_city city.Memory = Memory
 
+-- what a last line tells of a line that is none
+abbrev pub why_of : LineWhy → Why
+why_of line_whys.Shape = whys.Shape
+why_of line_whys.Name = whys.Name
+why_of line_whys.Number = whys.Number
+why_of line_whys.Change = whys.Change
+
 abbrev pub of_line : LineError → Halt
-of_line (line.BadLine why) = BadLine Shape
+of_line line.NotJson = BadLine whys.NotJson
+of_line (line.BadLine why) = BadLine (why_of why)
 of_line line.Memory = Memory
 
 abbrev pub of_query : QueryError → Halt
-of_query query.Later = BadLine Shape
+of_query query.Later = BadLine whys.Shape
 of_query query.Memory = Memory
 
 -- the sink is at fault, or there was no memory
@@ -39,7 +52,7 @@ abbrev pub IsOfWriting : Halt → Type 0
 IsOfWriting ReadFault = ⊥
 IsOfWriting WriteFault = Unit {0}
 IsOfWriting (BadLine why) = ⊥
-IsOfWriting TooLong = ⊥
+IsOfWriting (Limit which count) = ⊥
 IsOfWriting Memory = Unit {0}
 
 -- the words ask to play a script without a store

@@ -4,5 +4,7 @@ pub mod Messages
 pub mod Outside
 pub mod Played
 pub mod Run
+pub mod Says
+pub mod Sessions
 pub mod Stepped
 pub mod Taken

@@ -1,79 +1,170 @@
 -- The run of a script over a city of one agent: which lines each line of the script brings about.
-use Rattle.std.specs.Prelude.{◌≡◌, ℕ, ◌+◌, true, List, [], ◌∷◌, ◌++◌, map, length, codes}
+use Rattle.std.specs.Prelude.{◌≡◌, ℕ, ◌+◌, Bool, true, nat_le, nat_lt, is_some, if◌then◌else◌, List, [], ◌∷◌, ◌++◌, map, length, codes, Option, Some, None, Result, Ok, Err}
 use Rattle.std.specs.List.{flat_map, filter_map}
-use Rattle.serde_json.specs.Data.{boolean, array, object, no_members, member}
+use Rattle.std.specs.Option.{option_map_or}
+use Rattle.serde_json.specs.Data.{Data, boolean, array, object, no_members, member}
 use Rattle.serde_json.specs.View.{items_of}
 use Rattle.serde_json.specs.Written.{compact_text}
 use Rattle.iris_base.specs.declared.name.Label.{Label}
-use Rattle.iris_tree.specs.Universe.{Node}
-use Rattle.iris_json.specs.declared.line.Line.TheVariants as lines
 use Rattle.iris_base.specs.declared.cite.Cite.{Cite}
+use Rattle.iris_tree.specs.declared.local.Local.{Local}
+use Rattle.iris_tree.specs.Changes.{apply_changes}
+use Rattle.iris_tree.specs.Universe.{Node, node_at}
+use Rattle.iris_json.specs.declared.out.Out.{Out}
 use Rattle.iris_json.specs.declared.out.Out.TheVariants as outs
 use Rattle.iris_json.specs.CityLine.{ReadsCity}
-use Rattle.iris_json.specs.Lines.{ReadsLine}
 use Rattle.iris_json.specs.Out.{count, cites_data, out_text}
 use Rattle.iris_json.specs.Render.{item_at}
-use Rattle.iris_xpath.specs.Grammar.{Reads, Within}
+use Rattle.iris_xpath.specs.Syntax.{Syntax}
 use Rattle.iris_xpath.specs.Meaning.{selected, full_names}
-use Rattle.iris_cli.specs.declared.session.Event.{Event}
-use Rattle.iris_cli.specs.declared.session.Event.TheVariants as events
+use Rattle.iris_book.specs.declared.entry.Entry.TheVariants as entries
+use Rattle.iris_book.specs.Book.{History, with_entry, latest, value_at, today, last_number_at}
+use Rattle.iris_cli.specs.declared.event.Event.{Event}
+use Rattle.iris_cli.specs.declared.event.Event.TheVariants as events
+use Rattle.iris_cli.specs.declared.event.Sent.{Sent}
+use Rattle.iris_cli.specs.declared.event.Sent.TheVariants as sent
+use Rattle.iris_cli.specs.declared.event.Update.{Update}
 use Rattle.iris_cli.specs.declared.session.Posted.{Posted}
-use Rattle.iris_cli.specs.declared.session.Session.{Session}
 use Rattle.iris_cli.specs.Lines.{ended}
+use Rattle.iris_cli.specs.Says.{Says}
 
--- ---- the lines of the run, each without its LF
+-- what the one agent holds: what was accepted since the start, and the present moment
+pub record Held : Type 0 where
+  pub history : History
+  pub now : ℕ
 
--- the post of a query, whose request has the post's number
-abbrev pub posted_text : Session → List ℕ
-posted_text s = out_text (outs.Query s.posts s.posts s.agent)
+-- a city under a script: its kinds, its agent, what that holds, what is posted and not yet delivered, in the order of posting, and how many posts and requests were made
+pub record World : Type 0 where
+  pub kinds : List (List ℕ)
+  pub agent : List ℕ
+  pub held : Held
+  pub posted : List Posted
+  pub posts : ℕ
+  pub requests : ℕ
 
--- a node's value at the start, which is version 0 at moment 0
-abbrev pub start_cite : List Label → Cite
-start_cite name = record { name = name; version = 0; stamp = 0 }
+-- ---- answers
 
--- An answer has the items at the selected places of the document, and cites the names of the nodes that were looked into, in the order of names, each once.
-abbrev pub answer_text : Node → Posted → List ℕ
-answer_text document p = compact_text (object
-    (member (codes "answer") (array (items_of (filter_map (item_at document) (selected document p.query))))
-    (member (codes "cites") (cites_data (map start_cite (full_names document p.query)))
+-- the items at the places that a query selects in a document, in their order
+abbrev pub items_of_query : Node → Syntax → Data
+items_of_query document query = array (items_of (filter_map (item_at document) (selected document query)))
+
+-- how many updates a node has had
+abbrev pub version_of : Held → List Label → ℕ
+version_of h name = option_map_or (λ version. version) (latest h.history name) 0
+
+-- a node's newest value, at the present moment
+abbrev pub newest_cite : Held → List Label → Cite
+newest_cite h name = record { name = name; version = version_of h name; stamp = h.now }
+
+-- An answer has the items that today's document has for the query, and cites the names of the nodes that were looked into, in the order of names, each once.
+abbrev pub answer_text : Held → ℕ → Syntax → List ℕ
+answer_text h request query = compact_text (object
+    (member (codes "answer") (items_of_query (today h.history) query)
+    (member (codes "cites") (cites_data (map (newest_cite h) (full_names (today h.history) query)))
     (member (codes "newest") (boolean true)
-    (member (codes "request") (count p.request)
+    (member (codes "request") (count request)
     no_members)))))
 
--- a settle tells how many deliveries it made
-abbrev pub settled_text : ℕ → List ℕ
-settled_text deliveries = out_text (outs.Settled deliveries)
+abbrev pub audit_text : Held → ℕ → Syntax → List ℕ
+audit_text h request query = compact_text (object
+    (member (codes "audit") (items_of_query (today h.history) query)
+    (member (codes "request") (count request)
+    no_members)))
 
--- ---- what a line says and does
+-- ---- updates
 
--- the line is one of a script, and says this: to post a query of these kinds, or to settle
-abbrev pub Says : List (List ℕ) → List ℕ → Event → Type 0
-Says kinds line (events.Query query) = (text : List ℕ) × ReadsLine line (lines.Query text) × Reads kinds text query × Within text query
-Says kinds line events.Settle = ReadsLine line lines.Settle
+-- the number of the last accepted update of that node, 0 where there is none
+abbrev pub last_number : Held → List Label → ℕ
+last_number h name = last_number_at h.history name
 
--- the lines that it brings about: a post line, or the answers of all that is posted, in the order of posting, and then the settle's
-abbrev pub brings : Session → Event → List (List ℕ)
-brings s (events.Query query) = posted_text s ∷ []
-brings s events.Settle = map (answer_text s.document) s.posted ++ settled_text (length s.posted) ∷ []
+-- local information after changes, or what is told of the change that fails
+abbrev pub or_bad_change : ℕ → Result Local ℕ → Result Local Out
+or_bad_change request (Ok local) = Ok local
+or_bad_change request (Err at) = Err (outs.BadChange at request)
 
--- what it leaves: one more post, or none that is not answered
-abbrev pub after : Session → Event → Session
-after s (events.Query query) = record { kinds = s.kinds; agent = s.agent; document = s.document; posted = s.posted ++ record { request = s.posts; query = query } ∷ []; posts = s.posts + 1 }
-after s events.Settle = record { kinds = s.kinds; agent = s.agent; document = s.document; posted = []; posts = s.posts }
+abbrev pub changed_at : ℕ → Option Local → Update → Result Local Out
+changed_at request None update = Err (outs.NoSuchNode request)
+changed_at request (Some local) update = or_bad_change request (apply_changes local update.changes)
+
+-- what an update makes of its node's newest value, or what is told where it is refused: its number is not greater than the last accepted one, or a change fails
+abbrev pub made_by : Held → ℕ → Update → Result Local Out
+made_by h request update =
+    if nat_le update.no (last_number h update.name) then Err (outs.Old (last_number h update.name) request) else changed_at request (value_at h.history update.name (version_of h update.name)) update
+
+abbrev pub update_out : Held → ℕ → Update → Result Local Out → Out
+update_out h request update (Ok local) = outs.Accepted (version_of h update.name + 1) request
+update_out h request update (Err refusal) = refusal
+
+abbrev pub after_update : Held → Update → Result Local Out → Held
+after_update h update (Ok local) = record { history = with_entry h.history (entries.Updated update.name update.no update.changes local h.now); now = h.now }
+after_update h update (Err refusal) = h
+
+-- ---- deliveries
+
+-- the line of a delivery
+abbrev pub delivered : Held → ℕ → Sent → List ℕ
+delivered h request (sent.Query query) = answer_text h request query
+delivered h request (sent.Update update) = out_text (update_out h request update (made_by h request update))
+
+-- what it leaves
+abbrev pub after_delivery : Held → ℕ → Sent → Held
+after_delivery h request (sent.Query query) = h
+after_delivery h request (sent.Update update) = after_update h update (made_by h request update)
+
+-- the lines of deliveries one after another, and what they leave
+abbrev pub all_delivered : Held → List Posted → List (List ℕ)
+all_delivered h [] = []
+all_delivered h (p ∷ ps) = delivered h p.request p.sent ∷ all_delivered (after_delivery h p.request p.sent) ps
+
+abbrev pub after_all : Held → List Posted → Held
+after_all h [] = h
+after_all h (p ∷ ps) = after_all (after_delivery h p.request p.sent) ps
+
+-- ---- what a line brings about, and what it leaves
+
+-- the post of a query or an update, or what is told where the update's node is none
+abbrev pub post_out : World → Sent → Out
+post_out w (sent.Query query) = outs.Query w.posts w.requests w.agent
+post_out w (sent.Update update) = if is_some (node_at (today w.held.history) update.name) then outs.Update w.posts w.requests w.agent else outs.NoSuchNode w.requests
+
+abbrev pub is_posted : World → Sent → Bool
+is_posted w (sent.Query query) = true
+is_posted w (sent.Update update) = is_some (node_at (today w.held.history) update.name)
+
+abbrev pub brings : World → Event → List (List ℕ)
+brings w (events.Post s) = out_text (post_out w s) ∷ []
+brings w (events.Audit query) = audit_text w.held w.requests query ∷ []
+brings w (events.Now at) = if nat_lt at w.held.now then out_text (outs.BackInTime w.held.now) ∷ [] else []
+brings w events.Settle = all_delivered w.held w.posted ++ out_text (outs.Settled (length w.posted)) ∷ []
+
+-- with one request more, and one post more if it was posted
+abbrev pub after_post : World → Sent → World
+after_post w s = if is_posted w s
+    then record w { posted = w.posted ++ record { request = w.requests; sent = s } ∷ []; posts = w.posts + 1; requests = w.requests + 1 }
+    else record w { requests = w.requests + 1 }
+
+abbrev pub after : World → Event → World
+after w (events.Post s) = after_post w s
+after w (events.Audit query) = record w { requests = w.requests + 1 }
+after w (events.Now at) = if nat_lt at w.held.now then w else record w { held = record { history = w.held.history; now = at } }
+after w events.Settle = record w { held = after_all w.held w.posted; posted = [] }
 
 -- ---- lines one after another
 
 -- what is written by lines after the first, and what they leave
-abbrev pub Runs : Session → List (List ℕ) → List ℕ → Session → Type 0
-Runs s [] written now = (written ≡ []) × (now ≡ s)
-Runs s (line ∷ lines) written now = (event : Event) × (more : List ℕ) × Says s.kinds line event × Runs (after s event) lines more now × (written ≡ flat_map ended (brings s event) ++ more)
+abbrev pub Runs : World → List (List ℕ) → List ℕ → World → Type 0
+Runs w [] written now = (written ≡ []) × (now ≡ w)
+Runs w (line ∷ lines) written now = (event : Event) × (more : List ℕ) × Says w.kinds line event × Runs (after w event) lines more now × (written ≡ flat_map ended (brings w event) ++ more)
 
--- the city of a city line, with nothing posted
-pub record Starts (line : List ℕ) (s : Session) : Type 0 where
-  pub is_city : ReadsCity line s.kinds s.agent s.document
-  pub nothing_posted : s.posted ≡ []
-  pub no_posts : s.posts ≡ 0
+-- the city of a city line, with nothing accepted and nothing posted, at the moment 0
+pub record Starts (line : List ℕ) (w : World) : Type 0 where
+  pub is_city : ReadsCity line w.kinds w.agent w.held.history.start
+  pub nothing_accepted : w.held.history.entries ≡ []
+  pub begins : w.held.now ≡ 0
+  pub nothing_posted : w.posted ≡ []
+  pub no_posts : w.posts ≡ 0
+  pub no_requests : w.requests ≡ 0
 
 -- the lines of a script from its first on, and the bytes that they write
-abbrev pub RunsScript : List ℕ → List (List ℕ) → List ℕ → Session → Type 0
-RunsScript city lines written now = (start : Session) × Starts city start × Runs start lines written now
+abbrev pub RunsScript : List ℕ → List (List ℕ) → List ℕ → World → Type 0
+RunsScript city lines written now = (start : World) × Starts city start × Runs start lines written now

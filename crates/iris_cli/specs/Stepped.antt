@@ -1,18 +1,17 @@
 -- The play of a script before its last line: one line of it, and its lines so far.
 use Rattle.std.specs.Prelude.{◌≡◌, ◌≢◌, ℕ, ◌+◌, List, [], ◌++◌, ◌⊎◌, length, Option, Some, None, Result, Ok, Err}
-use Rattle.std.specs.List.{flat_map, AllByRecursion}
+use Rattle.std.specs.List.{flat_map}
 use Rattle.std.specs.Io.KnownBytes.{Appends}
-use Rattle.iris_json.specs.declared.out.Why.TheVariants.{Shape}
-use Rattle.iris_json.specs.declared.out.Which.TheVariants.{Script}
 use Rattle.iris_cli.specs.declared.halt.Halt.{Halt}
-use Rattle.iris_cli.specs.declared.halt.Halt.TheVariants.{ReadFault, WriteFault, BadLine, TooLong, Memory}
+use Rattle.iris_cli.specs.declared.halt.Halt.TheVariants.{ReadFault, WriteFault, BadLine, Limit, Memory}
 use Rattle.iris_cli.specs.declared.status.Status.{Status}
 use Rattle.iris_cli.specs.declared.status.Status.TheVariants as statuses
-use Rattle.iris_cli.specs.declared.session.Event.{Event}
-use Rattle.iris_cli.specs.declared.session.Session.{Session}
+use Rattle.iris_cli.specs.declared.event.Event.{Event}
 use Rattle.iris_cli.specs.Lines.{NoLf, ended}
-use Rattle.iris_cli.specs.Run.{Says, brings, after}
-use Rattle.iris_cli.specs.Played.{most_bytes, Fits, DoneSo, IsNoEvent, IsFront, IsFault, IsTooLong, last_line}
+use Rattle.iris_cli.specs.Says.{Says, IsNoEvent, IsToldOf}
+use Rattle.iris_cli.specs.Run.{World, brings, after}
+use Rattle.iris_cli.specs.Taken.{most_bytes}
+use Rattle.iris_cli.specs.Played.{AreLines, DoneSo, IsRefusedCity, IsFront, IsFault, IsPast, last_line}
 
 -- a front of the bytes was added
 abbrev pub IsPartOf : Option (List ℕ) → Option (List ℕ) → List ℕ → Type 0
@@ -20,52 +19,52 @@ IsPartOf old new bytes = (part : List ℕ) × (unwritten : List ℕ) × (bytes �
 
 -- ---- one line
 
--- a line is refused where it is none, unless there was no memory
-abbrev pub Refuses : Type 0 → Halt → Type 0
-Refuses IsNone (BadLine why) = (why ≡ Shape) × IsNone
-Refuses IsNone Memory = Unit {0}
-Refuses IsNone ReadFault = ⊥
-Refuses IsNone WriteFault = ⊥
-Refuses IsNone TooLong = ⊥
+-- a city line is refused where it is none, unless there was no memory
+abbrev pub RefusesCityLine : List ℕ → Halt → Type 0
+RefusesCityLine line (BadLine why) = IsRefusedCity line (BadLine why)
+RefusesCityLine line (Limit which count) = IsRefusedCity line (Limit which count)
+RefusesCityLine line Memory = Unit {0}
+RefusesCityLine line ReadFault = ⊥
+RefusesCityLine line WriteFault = ⊥
 
 -- a front of what the line brings about was added
-abbrev pub AddsFront : Session → List ℕ → Option (List ℕ) → Option (List ℕ) → Type 0
-AddsFront s line old new = Appends old new []
-    ⊎ ((event : Event) × Says s.kinds line event × IsPartOf old new (flat_map ended (brings s event)))
+abbrev pub AddsFront : World → List ℕ → Option (List ℕ) → Option (List ℕ) → Type 0
+AddsFront w line old new = Appends old new []
+    ⊎ ((event : Event) × Says w.kinds line event × IsPartOf old new (flat_map ended (brings w event)))
 
 -- the line was done, or why not
-abbrev pub Stepped : Session → Session → List ℕ → Option (List ℕ) → Option (List ℕ) → Result (Unit {0}) Halt → Type 0
-Stepped s next line old new (Ok u) = (event : Event) × Says s.kinds line event × (next ≡ after s event) × Appends old new (flat_map ended (brings s event))
-Stepped s next line old new (Err (BadLine why)) = (why ≡ Shape) × IsNoEvent s.kinds line × Appends old new []
-Stepped s next line old new (Err WriteFault) = AddsFront s line old new
-Stepped s next line old new (Err Memory) = AddsFront s line old new
-Stepped s next line old new (Err ReadFault) = ⊥
-Stepped s next line old new (Err TooLong) = ⊥
+abbrev pub Stepped : World → World → List ℕ → Option (List ℕ) → Option (List ℕ) → Result (Unit {0}) Halt → Type 0
+Stepped w next line old new (Ok u) = (event : Event) × Says w.kinds line event × (next ≡ after w event) × Appends old new (flat_map ended (brings w event))
+Stepped w next line old new (Err (BadLine why)) = IsNoEvent w.kinds line × IsToldOf w.kinds line (BadLine why) × Appends old new []
+Stepped w next line old new (Err (Limit which count)) = ⊥
+Stepped w next line old new (Err WriteFault) = AddsFront w line old new
+Stepped w next line old new (Err Memory) = AddsFront w line old new
+Stepped w next line old new (Err ReadFault) = ⊥
 
 -- ---- the lines so far
 
 -- so many lines were done, the source has the rest, and the script may have `room` bytes more
-abbrev pub IsSoFar : Option (List ℕ) → Option (List ℕ) → Option (List ℕ) → Option (List ℕ) → ℕ → ℕ → Option Session → Type 0
-IsSoFar None now old new number room s = Unit {0}
-IsSoFar (Some text) None old new number room s = ⊥
-IsSoFar (Some text) (Some rest) old new number room s = (lines : List (List ℕ)) × (done : List ℕ) × (text ≡ flat_map ended lines ++ rest) × AllByRecursion NoLf lines × DoneSo lines done s × Appends old new done
+abbrev pub IsSoFar : Option (List ℕ) → Option (List ℕ) → Option (List ℕ) → Option (List ℕ) → ℕ → ℕ → Option World → Type 0
+IsSoFar None now old new number room w = Unit {0}
+IsSoFar (Some text) None old new number room w = ⊥
+IsSoFar (Some text) (Some rest) old new number room w = (lines : List (List ℕ)) × (done : List ℕ) × (text ≡ flat_map ended lines ++ rest) × AreLines lines × DoneSo lines done w × Appends old new done
     × (number ≡ length lines) × (room + length (flat_map ended lines) ≡ most_bytes)
 
 -- what is so of the rest of the script where its lines were done up to this end
-abbrev pub Halts : List (List ℕ) → Option Session → List ℕ → List ℕ → List ℕ → ℕ → Result (Unit {0}) Halt → Type 0
-Halts lines s rest left part number (Ok u) = (lines ≢ []) × (rest ≡ []) × (left ≡ []) × (part ≡ [])
-Halts lines s rest left part number (Err (BadLine why)) = IsFault lines s rest left number why × (part ≡ [])
-Halts lines s rest left part number (Err TooLong) = IsTooLong lines rest left × (part ≡ [])
-Halts lines s rest left part number (Err ReadFault) = (cut : List ℕ) × (rest ≡ cut ++ left) × NoLf cut × (part ≡ [])
-Halts lines s rest left part number (Err WriteFault) = IsFront s rest part
-Halts lines s rest left part number (Err Memory) = IsFront s rest part
+abbrev pub Halts : List (List ℕ) → Option World → List ℕ → List ℕ → List ℕ → ℕ → Result (Unit {0}) Halt → Type 0
+Halts lines w rest left part number (Ok u) = (lines ≢ []) × (rest ≡ []) × (left ≡ []) × (part ≡ [])
+Halts lines w rest left part number (Err (BadLine why)) = IsFault lines w rest left number why × (part ≡ [])
+Halts lines w rest left part number (Err (Limit which count)) = IsPast lines w rest left which count × (part ≡ [])
+Halts lines w rest left part number (Err ReadFault) = (cut : List ℕ) × (rest ≡ cut ++ left) × NoLf cut × (part ≡ [])
+Halts lines w rest left part number (Err WriteFault) = IsFront w rest part
+Halts lines w rest left part number (Err Memory) = IsFront w rest part
 
 -- the script was run up to this end
 abbrev pub RanTo : Option (List ℕ) → Option (List ℕ) → Option (List ℕ) → Option (List ℕ) → ℕ → Result (Unit {0}) Halt → Type 0
 RanTo None now old new number result = Unit {0}
 RanTo (Some text) None old new number result = ⊥
-RanTo (Some text) (Some left) old new number result = (lines : List (List ℕ)) × (rest : List ℕ) × (s : Option Session) × (done : List ℕ) × (part : List ℕ)
-    × (text ≡ flat_map ended lines ++ rest) × AllByRecursion NoLf lines × Fits lines [] × DoneSo lines done s × Appends old new (done ++ part) × Halts lines s rest left part number result
+RanTo (Some text) (Some left) old new number result = (lines : List (List ℕ)) × (rest : List ℕ) × (w : Option World) × (done : List ℕ) × (part : List ℕ)
+    × (text ≡ flat_map ended lines ++ rest) × AreLines lines × DoneSo lines done w × Appends old new (done ++ part) × Halts lines w rest left part number result
 
 -- ---- the last line
 
@@ -73,7 +72,7 @@ RanTo (Some text) (Some left) old new number result = (lines : List (List ℕ)) 
 abbrev pub status_of : ℕ → Result (Unit {0}) Halt → Status
 status_of number (Ok u) = statuses.Done
 status_of number (Err (BadLine why)) = statuses.BadScript number why
-status_of number (Err TooLong) = statuses.Limit Script (most_bytes + 1)
+status_of number (Err (Limit which count)) = statuses.Limit which count
 status_of number (Err ReadFault) = statuses.ReadFault
 status_of number (Err WriteFault) = statuses.WriteFault
 status_of number (Err Memory) = statuses.Memory

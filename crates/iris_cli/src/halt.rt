@@ -1,8 +1,10 @@
 //! Why the play of a script goes no further.
+ghost use Rattle.std.specs.Prelude.{◌≡◌};
+ghost use Rattle.iris_cli.specs.Halt.{why_of};
 
 use crate::sink::SinkError;
 use crate::source::SourceError;
-use iris_json::{CityError, LineError, Why};
+use iris_json::{CityError, LineError, LineWhy, Which, Why};
 use iris_tree::Memory;
 use iris_xpath::QueryError;
 use std::alloc::{AllocError, AllocFailed};
@@ -16,8 +18,8 @@ pub enum Halt {
     WriteFault,
     /// The present line is at fault.
     BadLine { why: Why },
-    /// The script has more bytes than it may have.
-    TooLong,
+    /// That limit was passed; the count is the least that passes it, or the greatest that was found.
+    Limit { which: Which, count: u64 },
     /// There was no memory.
     Memory,
 }
@@ -91,9 +93,23 @@ impl From<CityError> for Halt {
 
     fn from(error: CityError) -> Halt {
         match error {
+            CityError::NotJson => Halt::BadLine { why: Why::NotJson },
             CityError::BadCity { .. } => Halt::BadLine { why: Why::Shape },
+            CityError::CityLimit { which, count } => Halt::Limit { which, count },
             CityError::Memory => Halt::Memory,
         }
+    }
+}
+
+// What a last line tells of a line that is none.
+fn why_of(why: LineWhy) -> Why
+    ensures { result ≡ why_of why }
+{
+    match why {
+        LineWhy::Shape => Why::Shape,
+        LineWhy::Name => Why::Name,
+        LineWhy::Number => Why::Number,
+        LineWhy::Change => Why::Change,
     }
 }
 
@@ -105,7 +121,8 @@ impl From<LineError> for Halt {
 
     fn from(error: LineError) -> Halt {
         match error {
-            LineError::BadLine { .. } => Halt::BadLine { why: Why::Shape },
+            LineError::NotJson => Halt::BadLine { why: Why::NotJson },
+            LineError::BadLine { why } => Halt::BadLine { why: why_of(why) },
             LineError::Memory => Halt::Memory,
         }
     }

@@ -2,12 +2,15 @@
 //! script.
 #![tactic(auto)]
 
+mod event;
 mod halt;
 mod line;
 mod player;
 mod script;
+mod serving;
 mod session;
 pub mod sink;
+mod site;
 pub mod source;
 mod status;
 #[cfg(test)]

@@ -6,12 +6,11 @@ ghost use Rattle.iris_cli.specs.Played.{PlaysOn};
 ghost use Rattle.iris_cli.specs.Stepped.{RanTo, status_of, Closes};
 
 use crate::halt::Halt;
-use crate::script::{MOST_BYTES, Script};
+use crate::script::Script;
 use crate::session::{Session, put};
 use crate::sink::Sink;
 use crate::source::Source;
 use crate::status::Status;
-use iris_json::Which;
 use iris_tree::Text;
 use std::alloc::Global;
 
@@ -55,10 +54,7 @@ fn status_of(ran: Result<(), Halt>, number: u64) -> Status
         Err(Halt::ReadFault) => Status::ReadFault,
         Err(Halt::WriteFault) => Status::WriteFault,
         Err(Halt::BadLine { why }) => Status::BadScript { line: number, why },
-        Err(Halt::TooLong) => Status::Limit {
-            which: Which::Script,
-            count: MOST_BYTES as u64 + 1,
-        },
+        Err(Halt::Limit { which, count }) => Status::Limit { which, count },
         Err(Halt::Memory) => Status::Memory,
     }
 }

@@ -1,51 +1,45 @@
 //! A city under a script: what is posted and not yet delivered, and what each line brings about.
-ghost use Rattle.std.specs.Prelude.{◌≡◌, ◌<◌, ◌+◌, ℕ, List, map, codes, IfOk, IfErr, OnOk};
+ghost use Rattle.std.specs.Prelude.{◌≡◌, ◌<◌, [], IfOk, IfErr, OnOk};
 ghost use Rattle.std.specs.List.{flat_map};
+ghost use Rattle.iris_json.specs.Out.{out_text};
 ghost use Rattle.iris_cli.specs.Outside.{HasCause, Puts};
 ghost use Rattle.iris_cli.specs.Halt.{IsOfWriting};
 ghost use Rattle.iris_cli.specs.Lines.{ended};
-ghost use Rattle.iris_json.specs.Out.{out_text};
-ghost use Rattle.iris_cli.specs.Run.{start_cite, answer_text, Says, brings, after, Starts};
-ghost use Rattle.iris_cli.specs.Played.{IsNoCity, IsNoEvent};
-ghost use Rattle.iris_cli.specs.Stepped.{Refuses, Stepped};
+ghost use Rattle.iris_cli.specs.Run.{all_delivered, after_all, post_out, after_post, brings, after, Starts};
+ghost use Rattle.iris_cli.specs.Sessions.{held_of, world_of};
+ghost use Rattle.iris_cli.specs.Stepped.{RefusesCityLine, Stepped};
 
+use crate::event::{Event, Sent};
 use crate::halt::Halt;
 use crate::sink::Sink;
-use iris_json::{Cite, City, Line, Out, Why, read_city, read_line, write_out};
-use iris_select::{evaluate, items_at};
-use iris_tree::{AgentId, Kind, Mem, Name, Sequence, Tree};
-use iris_xpath::{Query, parse};
+use crate::site::Site;
+use iris_json::{City, Out, Why, read_city, write_out};
+use iris_tree::{AgentId, Kind, Mem, Sequence};
+use iris_xpath::Query;
 use std::alloc::Global;
+use std::collections::VecDeque;
 
-/// A query that is posted and not yet delivered.
-#[derive(Debug, Drop)]
+/// What is posted and not yet delivered.
+#[derive(Drop)]
 pub struct Posted {
-    /// The request that its answer tells.
+    /// The request that its outcome tells.
     pub request: u64,
-    pub query: Query,
+    pub sent: Sent,
 }
 
-/// What a line after the first says.
-#[derive(Debug, Drop)]
-pub enum Event {
-    /// A query is posted to the agent.
-    Query { query: Query },
-    /// All that is posted is answered.
-    Settle,
-}
-
-/// A city of one agent, and the queries that are posted to it.
-#[derive(Debug, Drop)]
+/// A city of one agent, and what is posted to it.
+#[derive(Drop)]
 pub struct Session {
     /// The kinds of the city's nodes.
     pub kinds: Sequence<Kind>,
     pub agent: AgentId,
-    /// The city's nodes.
-    pub document: Tree,
+    pub site: Site,
     /// In the order of posting.
-    pub posted: Sequence<Posted>,
-    /// How many posts were made, each for a request of the same number, from 0.
+    pub posted: VecDeque<Posted>,
+    /// How many posts were made, numbered from 0.
     pub posts: u64,
+    /// How many requests were made, numbered from 0.
+    pub requests: u64,
 }
 
 /// Writes a line of the run, with its LF.
@@ -60,58 +54,31 @@ pub fn put<K: Sink>(alloc: Global, out: &Out, sink: &mut K) -> Result<(), Halt>
     Ok(())
 }
 
-// Cites of these names as they were at the start.
-fn start_cites(alloc: Global, names: Vec<Name>) -> Mem<Sequence<Cite>>
-    ensures { IfOk result (λ cites. cites ≡ map start_cite names.items) }
-{
-    let mut cites = Sequence::new(alloc);
-    for name in names {
-        cites.push(Cite {
-            name,
-            version: 0,
-            stamp: 0,
-        })?;
-    }
-    Ok(cites)
-}
-
-// The answer of a posted query on a document.
-fn answer(alloc: Global, document: &Tree, posted: &Posted) -> Mem<Out>
-    ensures { IfOk result (λ out. out_text out ≡ answer_text document.now posted.now) }
-{
-    let found = evaluate(alloc, document, &posted.query)?;
-    let items = items_at(alloc, document, &found.places)?;
-    Ok(Out::Answer {
-        answer: Sequence::from_vec(items),
-        cites: start_cites(alloc, found.full)?,
-        newest: true,
-        request: posted.request,
-    })
-}
-
-// Writes the answers of posted queries, in their order.
-fn put_answers<K: Sink>(
+// Delivers all that is posted, in its order, and writes the line of each.
+fn deliver_all<K: Sink>(
     alloc: Global,
-    document: &Tree,
-    posted: &[Posted],
+    site: &mut Site,
+    posted: &mut VecDeque<Posted>,
     sink: &mut K,
 ) -> Result<(), Halt>
-    ensures bytes { Puts (K.held sink.old) (K.held sink.new) result (flat_map ended (map (answer_text document.now) posted.now)) }
+    ensures bytes { Puts (K.held sink.old) (K.held sink.new) result (flat_map ended (all_delivered (held_of site.old) posted.old.items)) }
+    ensures after { OnOk result (held_of site.new ≡ after_all (held_of site.old) posted.old.items) }
+    ensures none { OnOk result (posted.new.items ≡ []) }
     ensures cause { HasCause Halt.WriteFault (K.faults sink.old) (K.faults sink.new) result }
     ensures writes { IfErr result IsOfWriting }
 {
-    for query in posted {
-        let out = answer(alloc, document, query)?;
+    'posts: while let Some(Posted { request, sent }) = posted.pop_front() {
+        let out = site.deliver(alloc, request, sent)?;
         put(alloc, &out, sink)?;
     }
     Ok(())
 }
 
 impl Session {
-    /// The city of a city line, with nothing posted.
+    /// The city of a city line, with nothing accepted and nothing posted.
     pub fn start(alloc: Global, line: &[u8]) -> Result<Session, Halt>
-        ensures starts { IfOk result (λ session. Starts line.now session) }
-        ensures refused { IfErr result (λ halt. Refuses (IsNoCity line.now) halt) }
+        ensures starts { IfOk result (λ session. Starts line.now (world_of session)) }
+        ensures refused { IfErr result (RefusesCityLine line.now) }
     {
         let City {
             kinds,
@@ -125,85 +92,113 @@ impl Session {
         Ok(Session {
             kinds,
             agent: *agent,
-            document: tree,
-            posted: Sequence::new(alloc),
+            site: Site::new(alloc, tree)?,
+            posted: VecDeque::new(alloc),
             posts: 0,
+            requests: 0,
         })
     }
 
-    // What a line says.
-    fn read(&self, alloc: Global, line: &[u8]) -> Result<Event, Halt>
-        ensures says { IfOk result (λ event. Says self.now.kinds line.now event) }
-        ensures refused { IfErr result (λ halt. Refuses (IsNoEvent self.now.kinds line.now) halt) }
+    // Posts a query or an update, and tells the post; or tells that the update's node is none.
+    fn post(&mut self, sent: Sent) -> Mem<Out>
+        requires posts { self.old.posts < 18446744073709551615 }
+        requires requests { self.old.requests < 18446744073709551615 }
+        ensures told { IfOk result (λ out. out ≡ post_out (world_of self.old) sent) }
+        ensures after { OnOk result (world_of self.new ≡ after_post (world_of self.old) sent) }
     {
-        match read_line(alloc, line)? {
-            Line::Query { query } => Ok(Event::Query {
-                query: parse(alloc, query.as_str(), self.kinds.as_slice())?,
-            }),
-            Line::Settle => Ok(Event::Settle),
-        }
-    }
-
-    // Posts a query to the agent.
-    fn post<K: Sink>(&mut self, alloc: Global, query: Query, sink: &mut K) -> Result<(), Halt>
-        requires room { self.old.posts < 18446744073709551615 }
-        ensures bytes { Puts (K.held sink.old) (K.held sink.new) result (flat_map ended (brings self.old (Event.Query query))) }
-        ensures after { OnOk result (self.new ≡ after self.old (Event.Query query)) }
-        ensures cause { HasCause Halt.WriteFault (K.faults sink.old) (K.faults sink.new) result }
-        ensures writes { IfErr result IsOfWriting }
-    {
-        let post = self.posts;
-        self.posted.push(Posted {
-            request: post,
-            query,
-        })?;
+        let (post, request, to) = (self.posts, self.requests, self.agent);
+        let out = match &sent {
+            Sent::Query { .. } => Out::Query { post, request, to },
+            Sent::Update { update } if self.site.has(&update.name) => {
+                Out::Update { post, request, to }
+            }
+            Sent::Update { .. } => {
+                self.requests = request + 1;
+                return Ok(Out::NoSuchNode { request });
+            }
+        };
+        self.posted.push_back(Posted { request, sent })?;
         self.posts = post + 1;
-        let to = self.agent;
-        put(
-            alloc,
-            &Out::Query {
-                post,
-                request: post,
-                to,
-            },
-            sink,
-        )
+        self.requests = request + 1;
+        Ok(out)
     }
 
-    // Answers all that is posted, in the order of posting.
-    fn settle<K: Sink>(&mut self, alloc: Global, sink: &mut K) -> Result<(), Halt>
-        ensures bytes { Puts (K.held sink.old) (K.held sink.new) result (flat_map ended (brings self.old Event.Settle)) }
-        ensures after { OnOk result (self.new ≡ after self.old Event.Settle) }
+    fn put_post<K: Sink>(&mut self, alloc: Global, sent: Sent, sink: &mut K) -> Result<(), Halt>
+        requires posts { self.old.posts < 18446744073709551615 }
+        requires requests { self.old.requests < 18446744073709551615 }
+        ensures bytes { Puts (K.held sink.old) (K.held sink.new) result (flat_map ended (brings (world_of self.old) (Event.Post sent))) }
+        ensures after { OnOk result (world_of self.new ≡ after (world_of self.old) (Event.Post sent)) }
         ensures cause { HasCause Halt.WriteFault (K.faults sink.old) (K.faults sink.new) result }
         ensures writes { IfErr result IsOfWriting }
     {
-        put_answers(alloc, &self.document, self.posted.as_slice(), sink)?;
+        let out = self.post(sent)?;
+        put(alloc, &out, sink)
+    }
+
+    // Answers a query at once, from today's document.
+    fn audit<K: Sink>(&mut self, alloc: Global, query: &Query, sink: &mut K) -> Result<(), Halt>
+        requires requests { self.old.requests < 18446744073709551615 }
+        ensures bytes { Puts (K.held sink.old) (K.held sink.new) result (flat_map ended (brings (world_of self.old) (Event.Audit query.now))) }
+        ensures after { OnOk result (world_of self.new ≡ after (world_of self.old) (Event.Audit query.now)) }
+        ensures cause { HasCause Halt.WriteFault (K.faults sink.old) (K.faults sink.new) result }
+        ensures writes { IfErr result IsOfWriting }
+    {
+        let out = self.site.audit(alloc, self.requests, query)?;
+        self.requests += 1;
+        put(alloc, &out, sink)
+    }
+
+    // Puts the time forward, or tells that it would go back.
+    fn advance<K: Sink>(&mut self, alloc: Global, at: u64, sink: &mut K) -> Result<(), Halt>
+        ensures bytes { Puts (K.held sink.old) (K.held sink.new) result (flat_map ended (brings (world_of self.old) (Event.Now at))) }
+        ensures after { OnOk result (world_of self.new ≡ after (world_of self.old) (Event.Now at)) }
+        ensures cause { HasCause Halt.WriteFault (K.faults sink.old) (K.faults sink.new) result }
+        ensures writes { IfErr result IsOfWriting }
+    {
+        if self.site.advance(at) {
+            return Ok(());
+        }
+        let now = self.site.now();
+        put(alloc, &Out::BackInTime { now }, sink)
+    }
+
+    // Delivers all that is posted, in the order of posting.
+    fn settle<K: Sink>(&mut self, alloc: Global, sink: &mut K) -> Result<(), Halt>
+        ensures bytes { Puts (K.held sink.old) (K.held sink.new) result (flat_map ended (brings (world_of self.old) Event.Settle)) }
+        ensures after { OnOk result (world_of self.new ≡ after (world_of self.old) Event.Settle) }
+        ensures cause { HasCause Halt.WriteFault (K.faults sink.old) (K.faults sink.new) result }
+        ensures writes { IfErr result IsOfWriting }
+    {
         let settled = self.posted.len() as u64;
-        self.posted = Sequence::new(alloc);
+        deliver_all(alloc, &mut self.site, &mut self.posted, sink)?;
         put(alloc, &Out::Settled { settled }, sink)
     }
 
     // Does what a line says.
     fn act<K: Sink>(&mut self, alloc: Global, event: Event, sink: &mut K) -> Result<(), Halt>
-        requires room { self.old.posts < 18446744073709551615 }
-        ensures bytes { Puts (K.held sink.old) (K.held sink.new) result (flat_map ended (brings self.old event)) }
-        ensures after { OnOk result (self.new ≡ after self.old event) }
+        requires posts { self.old.posts < 18446744073709551615 }
+        requires requests { self.old.requests < 18446744073709551615 }
+        ensures bytes { Puts (K.held sink.old) (K.held sink.new) result (flat_map ended (brings (world_of self.old) event)) }
+        ensures after { OnOk result (world_of self.new ≡ after (world_of self.old) event) }
         ensures cause { HasCause Halt.WriteFault (K.faults sink.old) (K.faults sink.new) result }
         ensures writes { IfErr result IsOfWriting }
     {
         match event {
-            Event::Query { query } => self.post(alloc, query, sink),
+            Event::Post { sent } => self.put_post(alloc, sent, sink),
+            Event::Audit { query } => self.audit(alloc, &query, sink),
+            Event::Now { at } => self.advance(alloc, at, sink),
             Event::Settle => self.settle(alloc, sink),
         }
     }
 
     /// Reads a line after the first and does what it says.
     pub fn run<K: Sink>(&mut self, alloc: Global, line: &[u8], sink: &mut K) -> Result<(), Halt>
-        requires room { self.old.posts < 18446744073709551615 }
-        ensures stepped { Stepped self.old self.new line.now (K.held sink.old) (K.held sink.new) result }
+        requires posts { self.old.posts < 18446744073709551615 }
+        requires requests { self.old.requests < 18446744073709551615 }
+        ensures stepped { Stepped (world_of self.old) (world_of self.new) line.now (K.held sink.old) (K.held sink.new) result }
         ensures cause { HasCause Halt.WriteFault (K.faults sink.old) (K.faults sink.new) result }
     {
-        let event = self.read(alloc, line)?;
+        let event = Event::read(alloc, self.kinds.as_slice(), line)?;
         self.act(alloc, event, sink)
     }
 }

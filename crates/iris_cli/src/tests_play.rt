@@ -76,6 +76,88 @@ fn one_query_is_answered(rt: HostRuntime) -> Result<(), Fail> {
     Ok(())
 }
 
+const UPDATE: &str =
+    "{\"do\":\"update\",\"name\":\"space-1.block-1.hood-n.city-o\",\"no\":3,\"change\":[[\"attr\",\"free\",\"yes\"]]}\n";
+
+const NOW: &str = "{\"do\":\"now\",\"at\":7}\n";
+
+const FIRST: &str =
+    "{\"kind\":\"update\",\"post\":0,\"request\":0,\"to\":\"a\"}\n{\"accepted\":1,\"request\":0}\n{\"settled\":1}\n";
+
+const SECOND: &str =
+    "{\"kind\":\"update\",\"post\":1,\"request\":1,\"to\":\"a\"}\n{\"kind\":\"query\",\"post\":2,\"request\":2,\"to\":\"a\"}\n{\"last\":3,\"refused\":\"old\",\"request\":1}\n";
+
+const TWO_FREE: &str =
+    "{\"answer\":[{\"at\":\"space-1.block-1.hood-n.city-o\",\"is\":{\"attrs\":{\"free\":\"yes\"},\"id\":\"1\",\"kind\":\"space\",\"nodes\":[],\"plain\":[]}},{\"at\":\"space-2.block-1.hood-n.city-o\",\"is\":{\"attrs\":{\"free\":\"yes\"},\"id\":\"2\",\"kind\":\"space\",\"nodes\":[],\"plain\":[]}}],\"cites\":[[\"space-1.block-1.hood-n.city-o\",1,7],[\"space-2.block-1.hood-n.city-o\",0,7],[\"space-3.block-1.hood-n.city-o\",0,7]],\"newest\":true,\"request\":2}\n{\"settled\":2}\n";
+
+#[test]
+fn a_repeated_update_is_old(rt: HostRuntime) -> Result<(), Fail> {
+    let alloc = rt.alloc();
+    let script = joined(alloc, &[CITY, NOW, UPDATE, SETTLE, UPDATE, QUERY, SETTLE])?;
+    let (status, written) = given(alloc, script, 64)?;
+    assert_eq!(rt; status, Status::Done);
+    let wanted = joined(alloc, &[FIRST, SECOND, TWO_FREE])?;
+    assert_eq!(rt; written.as_slice(), wanted.as_slice());
+    Ok(())
+}
+
+#[test]
+fn what_a_line_tells(rt: HostRuntime) -> Result<(), Fail> {
+    let alloc = rt.alloc();
+    for (lines, wanted) in [
+        (
+            "{\"do\":\"now\",\"at\":7}\n{\"do\":\"now\",\"at\":7}\n{\"do\":\"now\",\"at\":6}\n",
+            "{\"now\":7,\"refused\":\"back in time\"}\n",
+        ),
+        (
+            "{\"do\":\"update\",\"name\":\"hood-m.city-o\",\"no\":1,\"change\":[[\"drop\",\"free\"]]}\n",
+            "{\"refused\":\"no such node\",\"request\":0}\n",
+        ),
+        (
+            "{\"do\":\"audit\",\"query\":\"/city/hood[@id='m']\"}\n",
+            "{\"audit\":[],\"request\":0}\n",
+        ),
+        (
+            "{\"do\":\"update\",\"name\":\"hood-n.city-o\",\"no\":1,\"change\":[[\"attr\",\"a\",\"b\"],[\"drop\",\"c\"]]}\n{\"do\":\"settle\"}\n",
+            "{\"kind\":\"update\",\"post\":0,\"request\":0,\"to\":\"a\"}\n{\"at\":1,\"refused\":\"bad change\",\"request\":0}\n{\"settled\":1}\n",
+        ),
+    ] {
+        let (status, written) = given(alloc, joined(alloc, &[CITY, lines])?, 64)?;
+        assert_eq!(rt; status, Status::Done);
+        assert_eq!(rt; written.as_slice(), wanted.as_bytes(), "of {lines}");
+    }
+    Ok(())
+}
+
+// A line of so many brackets, half of them open and half of them closed.
+fn brackets(alloc: Global, open: usize, close: usize) -> Result<Vec<u8>, AllocError> {
+    let mut bytes = joined(alloc, &[CITY])?;
+    for _ in 0..open {
+        bytes.push(b'[')?;
+    }
+    for _ in 0..close {
+        bytes.push(b']')?;
+    }
+    bytes.push(b'\n')?;
+    Ok(bytes)
+}
+
+#[test]
+fn a_nested_and_a_long_line_are_told(rt: HostRuntime) -> Result<(), Fail> {
+    let alloc = rt.alloc();
+    let (status, written) = given(alloc, brackets(alloc, 200, 200)?, 64)?;
+    let (line, why) = (2, Why::NotJson);
+    assert_eq!(rt; status, Status::BadScript { line, why });
+    let wanted = "{\"ended\":3,\"line\":2,\"why\":\"not-json\"}\n";
+    assert_eq!(rt; written.as_slice(), wanted.as_bytes());
+    let (status, written) = given(alloc, brackets(alloc, 16_385, 0)?, 64)?;
+    let (which, count) = (Which::Line, 16_385);
+    assert_eq!(rt; status, Status::Limit { which, count });
+    let wanted = "{\"count\":16385,\"ended\":7,\"which\":\"line\"}\n";
+    assert_eq!(rt; written.as_slice(), wanted.as_bytes());
+    Ok(())
+}
+
 #[test]
 fn a_fault_of_the_script_is_told(rt: HostRuntime) -> Result<(), Fail> {
     let alloc = rt.alloc();
