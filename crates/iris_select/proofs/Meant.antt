@@ -12,8 +12,8 @@ use Rattle.iris_tree.specs.declared.plain.Plain.TheViews.{out-Plain}
 use Rattle.iris_tree.specs.declared.plain.Plain.TheFolds.{fold_out-Plain}
 use Rattle.iris_tree.specs.Universe.{Node, node, Nodes, no_nodes, nodes, list_of, label_of, child_of, AllAfter, IsOrdered, AreOrdered}
 use Rattle.iris_tree.specs.Document.{Edge, position, label, Place, place_of, a_node, below_node, part_at_place, numbered, plain_places, plain_places_step, node_places, all_node_places, names_of, all_names_of}
-use Rattle.iris_xpath.specs.Syntax.{Main, Syntax}
-use Rattle.iris_xpath.specs.Meaning.{fits, tested_with_a_look, selected, full_names}
+use Rattle.iris_xpath.specs.Thin.{Main, Syntax}
+use Rattle.iris_xpath.specs.ThinMeaning.{fits, tested_with_a_look, selected, full_names}
 use Rattle.iris_xpath.proofs.Reached.{Parts, is_end, is_edge, reached, looked, plain_never, selected_is, full_names_are}
 use Rattle.iris_select.specs.Walk.{led_to, all_led_to, looked_at, all_looked_at}
 

@@ -10,8 +10,8 @@ use Rattle.iris_base.proofs.Labels.{label_eq-Decides}
 use Rattle.iris_tree.specs.Universe.{Node, node, Nodes, no_nodes, nodes, nodes_of, list_of, label_of, children_of, child_of, AllAfter, IsOrdered, AreOrdered}
 use Rattle.iris_tree.specs.Document.{Place, place_of, a_node, names_of, all_names_of}
 use Rattle.iris_tree.specs.NodeCode.{nodes_of-list_of}
-use Rattle.iris_xpath.specs.Syntax.{Main, Syntax}
-use Rattle.iris_xpath.specs.Meaning.{fits, tested_with_a_look}
+use Rattle.iris_xpath.specs.Thin.{Main, Syntax}
+use Rattle.iris_xpath.specs.ThinMeaning.{fits, tested_with_a_look}
 use Rattle.iris_select.specs.Walk.{led_to, all_led_to, names_from, looked_at, all_looked_at, IsOnlyFor}
 
 -- ---- a loop over children

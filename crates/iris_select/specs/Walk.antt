@@ -4,8 +4,8 @@ use Rattle.iris_base.specs.declared.name.Label.{Label}
 use Rattle.iris_base.specs.NameOrder.{label_eq}
 use Rattle.iris_tree.specs.Universe.{Node, node, Nodes, no_nodes, nodes, label_of}
 use Rattle.iris_tree.specs.Document.{a_node, all_names_of}
-use Rattle.iris_xpath.specs.Syntax.{Main, Syntax}
-use Rattle.iris_xpath.specs.Meaning.{fits, tested_with_a_look}
+use Rattle.iris_xpath.specs.Thin.{Main, Syntax}
+use Rattle.iris_xpath.specs.ThinMeaning.{fits, tested_with_a_look}
 
 -- the names of the nodes to which a step and the further ones lead
 abbrev mutual

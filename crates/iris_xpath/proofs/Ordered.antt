@@ -15,8 +15,8 @@ use Rattle.iris_tree.specs.declared.plain.Plain.TheViews.{out-Plain, out-roll-Pl
 use Rattle.iris_tree.specs.declared.plain.Plain.TheFolds.{fold_out-Plain, ind-Plain}
 use Rattle.iris_tree.specs.Universe.{Node, node, Nodes, no_nodes, nodes, label_of, AllAfter, IsOrdered, AreOrdered}
 use Rattle.iris_tree.specs.Document.{Edge, position, label, Place, numbered, plain_places, plain_places_step, node_places, all_node_places, places, part_at_place}
-use Rattle.iris_xpath.specs.Syntax.{Syntax}
-use Rattle.iris_xpath.specs.Meaning.{selected}
+use Rattle.iris_xpath.specs.Thin.{Syntax}
+use Rattle.iris_xpath.specs.ThinMeaning.{selected}
 use Rattle.iris_xpath.specs.PlaceOrder.{edge_cmp, place_cmp}
 use Rattle.iris_xpath.proofs.Reached.{reached, selected_is}
 

@@ -1,7 +1,7 @@
 -- The text of a predicate, and what may begin one.
 use Rattle.std.proofs.Common.{◌≡◌, ◌≢◌, ℕ, true, false, List, [], ◌∷◌, ◌++◌, refl, ap, sym, ◌∙◌, arith, codes, ◌==◌, append_assoc, slice_index}
 use Rattle.std.proofs.lemmas.Bool.Decides.{nat_tests}
-use Rattle.iris_xpath.specs.Syntax.{Equals}
+use Rattle.iris_xpath.specs.Thin.{Equals}
 use Rattle.iris_xpath.specs.Grammar.{IsWord, ReadsAll, ReadsPredicate}
 use Rattle.iris_xpath.specs.Follows.{EndsWord, EndsPredicates}
 use Rattle.iris_xpath.proofs.Words.{word_cut}

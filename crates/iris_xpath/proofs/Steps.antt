@@ -1,7 +1,7 @@
 -- The text of a step, and what may begin one.
 use Rattle.std.proofs.Common.{◌≡◌, ◌≢◌, ℕ, true, false, List, [], ◌∷◌, ◌++◌, length, refl, ap, sym, ◌∙◌, arith, codes, ◌==◌, subst, Contains, append_assoc, append-nil}
 use Rattle.std.proofs.lemmas.Bool.Decides.{nat_tests}
-use Rattle.iris_xpath.specs.Syntax.{Equals, Main}
+use Rattle.iris_xpath.specs.Thin.{Equals, Main}
 use Rattle.iris_xpath.specs.Grammar.{IsWord, ReadsAll, ReadsPredicate, ReadsMain}
 use Rattle.iris_xpath.specs.Follows.{EndsWord, EndsPredicates, EndsStep}
 use Rattle.iris_xpath.proofs.Pieces.{Left, left_end}

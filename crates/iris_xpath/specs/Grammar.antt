@@ -1,7 +1,7 @@
 -- The thin query language, as a relation between whole texts and queries, and its limits.
 use Rattle.std.specs.Prelude.{◌≡◌, ◌≢◌, ℕ, ◌*◌, ◌<◌, ◌≤◌, Bool, true, ◌&&◌, ◌||◌, ◌==◌, length, slice_index, nat_le, List, [], ◌∷◌, ◌++◌, codes, Contains}
 use Rattle.std.specs.List.{AllByRecursion, sum_by}
-use Rattle.iris_xpath.specs.Syntax.{Equals, Main, Syntax}
+use Rattle.iris_xpath.specs.Thin.{Equals, Main, Syntax}
 
 -- whether a byte is an ASCII letter
 abbrev pub is_letter : ℕ → Bool

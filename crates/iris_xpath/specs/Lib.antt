@@ -1,7 +1,10 @@
 pub mod Follows
 pub mod Gives
 pub mod Grammar
+pub mod Meaning
 pub mod Message
 pub mod PlaceOrder
 pub mod Syntax
-pub mod Meaning
+pub mod Thin
+pub mod ThinMeaning
+pub mod ThinQuery

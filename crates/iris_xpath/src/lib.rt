@@ -2,11 +2,15 @@
 #![tactic(auto)]
 
 mod error;
+mod expression;
 mod parser;
 mod query;
 #[cfg(test)]
 mod tests;
 
 pub use error::QueryError;
+pub use expression::{
+    Attribute, Comparison, Expression, NameTest, Operand, Part, Path, Separator, Step,
+};
 pub use parser::parse;
-pub use query::{Predicate, Query, Step};
+pub use query::{Predicate, Query, Step as ThinStep};

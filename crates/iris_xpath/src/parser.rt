@@ -2,7 +2,7 @@
 ghost use Rattle.std.specs.Prelude.{◌≡◌, ◌≢◌, ℕ, ◌≤◌, ◌++◌, ◌∷◌, List, IfOk, IfSome, IfNone, MatchOption, IsTrue, ◌↔◌, ◌==◌, Contains, take, drop, slice_index};
 ghost use Rattle.std.specs.List.{AllByRecursion};
 ghost use Rattle.std.specs.Str.{IsCharBoundary};
-ghost use Rattle.iris_xpath.specs.Syntax.{Equals, Main, Syntax};
+ghost use Rattle.iris_xpath.specs.Thin.{Equals, Main, Syntax};
 ghost use Rattle.iris_xpath.specs.Grammar.{is_letter, is_word_byte, IsWordByte, IsWord, HasNoQuote, ReadsPredicate, ReadsAll, ReadsMain, Reads, operands_of, Within};
 ghost use Rattle.iris_xpath.specs.Follows.{EndsWord, EndsPredicates, EndsStep};
 ghost use Rattle.iris_xpath.specs.Gives.{Gives, GivesFront};

@@ -13,7 +13,7 @@ pub struct Predicate {
 }
 
 impl Model for Predicate {
-    ghost use Rattle.iris_xpath.specs.Syntax.{Equals};
+    ghost use Rattle.iris_xpath.specs.Thin.{Equals};
 
     ghost Value = { Equals };
 
@@ -68,7 +68,7 @@ pub struct Step {
 }
 
 impl Model for Step {
-    ghost use Rattle.iris_xpath.specs.Syntax.{Main};
+    ghost use Rattle.iris_xpath.specs.Thin.{Main};
 
     ghost Value = { Main };
 
@@ -124,7 +124,7 @@ pub struct Query {
 
 impl Model for Query {
     ghost use Rattle.std.specs.Prelude.{◌≢◌, []};
-    ghost use Rattle.iris_xpath.specs.Syntax.{Syntax};
+    ghost use Rattle.iris_xpath.specs.Thin.{Syntax};
 
     ghost Value = { Syntax };
 

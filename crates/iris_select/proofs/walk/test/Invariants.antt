@@ -1,7 +1,7 @@
 use Rattle.std.proofs.Common.{◌≡◌, ◌||◌, drop}
 use Rattle.std.specs.List.{list_all}
 use Rattle.iris_tree.specs.Document.{a_node}
-use Rattle.iris_xpath.specs.Meaning.{holds, looks_into}
+use Rattle.iris_xpath.specs.ThinMeaning.{holds, looks_into}
 use Rattle.iris_select.proofs.walk.test.Given as goal
 
 abbrev pub invariant-loop-predicate : goal.invariant-loop-predicate

@@ -1,6 +1,6 @@
 use Rattle.std.proofs.Common.{rules, ◌≡◌, ◌++◌, List, ℕ, sym, subst}
 use Rattle.std.proofs.lemmas.Result.{err_from_is_err_and}
-use Rattle.iris_xpath.specs.Syntax.{Equals}
+use Rattle.iris_xpath.specs.Thin.{Equals}
 use Rattle.iris_xpath.specs.Grammar.{ReadsPredicate, ReadsAll}
 use Rattle.iris_xpath.specs.Follows.{EndsPredicates}
 use Rattle.iris_xpath.proofs.Pieces.{Left, left_step, left_none, left_end, found_more}

@@ -1,6 +1,6 @@
 use Rattle.std.proofs.Common.{rules, ◌≡◌, ◌++◌, [], List, ℕ, sym, refl, subst, append-nil}
 use Rattle.std.proofs.lemmas.Result.{err_from_is_err_and}
-use Rattle.iris_xpath.specs.Syntax.{Main}
+use Rattle.iris_xpath.specs.Thin.{Main}
 use Rattle.iris_xpath.specs.Grammar.{ReadsMain, ReadsAll}
 use Rattle.iris_xpath.specs.Follows.{EndsStep}
 use Rattle.iris_xpath.proofs.Pieces.{Left, left_step, left_none, found_more}

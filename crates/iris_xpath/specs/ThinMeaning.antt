@@ -1,0 +1,100 @@
+-- What a query selects: a filter over all places of a document, step by step (XPath 1.0, 2 and 3.3).
+use Rattle.std.specs.Prelude.{ℕ, Bool, true, false, ◌&&◌, if◌then◌else◌, List, [], ◌∷◌, Option, Some, None, filter, codes, not, ◌||◌}
+use Rattle.std.specs.List.{list_any, list_all}
+use Rattle.std.specs.Str.{bytes_eq}
+use Rattle.iris_base.specs.declared.name.Label.{Label}
+use Rattle.iris_base.specs.NameOrder.{label_eq}
+use Rattle.iris_tree.specs.Attrs.{value_of}
+use Rattle.iris_tree.specs.Universe.{Node, label_of, local_of}
+use Rattle.iris_tree.specs.declared.plain.Plain.TheViews.{out-Plain}
+use Rattle.iris_tree.specs.Document.{Edge, position, label, Place, Part, whole, a_node, a_plain, part_at_place, places, names_of, place_of}
+use Rattle.iris_xpath.specs.Thin.{Equals, Main, Syntax}
+
+abbrev pub edge_eq : Edge → Edge → Bool
+edge_eq (position i) (position j) = bytes_eq (i ∷ []) (j ∷ [])
+edge_eq (position i) (label m) = false
+edge_eq (label l) (position j) = false
+edge_eq (label l) (label m) = label_eq l m
+
+abbrev pub place_eq : Place → Place → Bool
+place_eq [] [] = true
+place_eq [] (f ∷ q) = false
+place_eq (e ∷ p) [] = false
+place_eq (e ∷ p) (f ∷ q) = edge_eq e f && place_eq p q
+
+-- whether a place is the parent of another
+abbrev pub is_parent : Place → Place → Bool
+is_parent [] [] = false
+is_parent [] (f ∷ []) = true
+is_parent [] (f ∷ g ∷ q) = false
+is_parent (e ∷ p) [] = false
+is_parent (e ∷ p) (f ∷ q) = edge_eq e f && is_parent p q
+
+-- whether a place is another, or above it
+abbrev pub is_above : Place → Place → Bool
+is_above [] q = true
+is_above (e ∷ p) [] = false
+is_above (e ∷ p) (f ∷ q) = edge_eq e f && is_above p q
+
+-- the value of an attribute: of `@id` at a node its id, else the attribute's text
+abbrev pub attribute_of : Part → List ℕ → Option (List ℕ)
+attribute_of whole name = None
+attribute_of (a_node n) name = if bytes_eq name (codes "id") then Some (label_of n).id else value_of (local_of n).attrs name
+attribute_of (a_plain p) name = value_of (out-Plain p).attrs name
+
+abbrev pub is_text : Option (List ℕ) → List ℕ → Bool
+is_text None text = false
+is_text (Some value) text = bytes_eq value text
+
+-- a predicate holds where the attribute has that text
+abbrev pub holds : Part → Equals → Bool
+holds part e = is_text (attribute_of part e.name) e.value
+
+-- the test of a step is a kind, which nodes alone have
+abbrev pub is_of_kind : Part → List ℕ → Bool
+is_of_kind whole kind = false
+is_of_kind (a_node n) kind = bytes_eq (label_of n).kind kind
+is_of_kind (a_plain p) kind = false
+
+-- what stands there fits the test, and the predicates hold one after another
+abbrev pub fits : Option Part → Main → Bool
+fits None step = false
+fits (Some part) step = is_of_kind part step.kind && list_all (holds part) step.predicates
+
+-- the places whose parent is in the context, and which fit the step
+abbrev pub step_to : Node → List Place → Main → List Place
+step_to document context step = filter (λ place. list_any (λ above. is_parent above place) context && fits (part_at_place document place) step) (places document)
+
+abbrev pub steps_to : Node → List Place → Syntax → List Place
+steps_to document context [] = context
+steps_to document context (step ∷ steps) = steps_to document (step_to document context step) steps
+
+-- what a query selects: its path begins at the document
+abbrev pub selected : Node → Syntax → List Place
+selected document query = steps_to document ([] ∷ []) query
+
+-- ---- what an evaluation looks at
+
+-- `@id` is told by the label; another attribute is looked up in the node itself
+abbrev pub is_on_id : Equals → Bool
+is_on_id e = bytes_eq e.name (codes "id")
+
+-- whether one of the predicates that are evaluated looks into the node: they are evaluated one after another, up to the first that is false
+abbrev pub looks_into : Part → List Equals → Bool
+looks_into part [] = false
+looks_into part (e ∷ es) = not (is_on_id e) || (holds part e && looks_into part es)
+
+abbrev pub tested_with_a_look : Option Part → Main → Bool
+tested_with_a_look None step = false
+tested_with_a_look (Some part) step = is_of_kind part step.kind && looks_into part step.predicates
+
+-- whether a place is looked into: by the predicates of a step, or since it is at or under a selected place
+abbrev pub is_looked_into : Node → List Place → Syntax → Place → Bool
+is_looked_into document context [] place = list_any (λ above. is_above above place) context
+is_looked_into document context (step ∷ steps) place =
+    (list_any (λ above. is_parent above place) context && tested_with_a_look (part_at_place document place) step)
+    || is_looked_into document (step_to document context step) steps place
+
+-- the names of the nodes that an evaluation looks into, in the order of names
+abbrev pub full_names : Node → Syntax → List (List Label)
+full_names document query = filter (λ name. is_looked_into document ([] ∷ []) query (place_of name)) (names_of document)
