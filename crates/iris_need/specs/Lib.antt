@@ -1,0 +1,4 @@
+pub mod Needs
+pub mod Pieces
+pub mod Program
+pub mod Run

@@ -1,0 +1,9 @@
+//! What an evaluation over a part of a document looks at, what it lacks, and what it answers where it
+//! lacks nothing.
+#![tactic(auto)]
+
+mod need;
+mod view;
+
+pub use need::{Need, Start, State};
+pub use view::View;
