@@ -9,7 +9,8 @@ use Rattle.iris_tree.specs.declared.plain.Plain.{Plain}
 use Rattle.iris_tree.specs.Universe.{Node, node, Nodes, no_nodes, nodes, list_of, label_of, child_of}
 use Rattle.iris_tree.specs.Document.{Edge, position, label, Place, place_of, Part, below_plain, below_node, part_at_place, numbered, plain_places, node_places, all_node_places, places, names_of}
 use Rattle.iris_xpath.specs.Thin.{Main, Syntax}
-use Rattle.iris_xpath.specs.ThinMeaning.{edge_eq, is_parent, is_above, fits, step_to, steps_to, selected, tested_with_a_look, is_looked_into, full_names}
+use Rattle.iris_xpath.specs.Places.{edge_eq, is_parent, is_above}
+use Rattle.iris_xpath.specs.ThinMeaning.{fits, step_to, steps_to, selected, tested_with_a_look, is_looked_into, full_names}
 
 -- ---- Bool
 

@@ -4,6 +4,7 @@ pub mod Grammar
 pub mod Meaning
 pub mod Message
 pub mod PlaceOrder
+pub mod Places
 pub mod Syntax
 pub mod Thin
 pub mod ThinMeaning

@@ -14,7 +14,7 @@ use Rattle.iris_xpath.specs.declared.expression.NameTest.TheVariants.{Any, Kind,
 use Rattle.iris_xpath.specs.declared.expression.Comparison.{Comparison}
 use Rattle.iris_xpath.specs.declared.expression.Comparison.TheVariants.{Equal, NotEqual, Less, LessOrEqual, Greater, GreaterOrEqual}
 use Rattle.iris_xpath.specs.Syntax.{Syntax, Condition, any_of, all_of, not_so, selects, compares, Conditions, no_conditions, conditions, Side, values_of, literal, number, Steps, here, attribute, itself, parent, step, MainStep, main_of}
-use Rattle.iris_xpath.specs.ThinMeaning.{place_eq, is_parent, is_above, attribute_of}
+use Rattle.iris_xpath.specs.Places.{place_eq, is_parent, is_above, attribute_of}
 
 -- whether a list has an element
 abbrev pub has_some : {X : Type 0} → List X → Bool

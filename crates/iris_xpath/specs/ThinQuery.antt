@@ -1,6 +1,6 @@
 -- Queries of the thin form, as whole syntax trees.
-use Rattle.std.specs.Prelude.{ℕ, Bool, true, false, ◌&&◌, List, [], ◌∷◌, map, Option, Some, None, is_some}
-use Rattle.std.specs.List.{list_all}
+use Rattle.std.specs.Prelude.{ℕ, Bool, true, false, ◌&&◌, List, [], ◌∷◌, map, Option, Some, None, is_some, unwrap_or}
+use Rattle.std.specs.List.{list_all, filter_map}
 use Rattle.iris_xpath.specs.declared.expression.Separator.{Separator}
 use Rattle.iris_xpath.specs.declared.expression.Separator.TheVariants.{Slash, DoubleSlash}
 use Rattle.iris_xpath.specs.declared.expression.NameTest.{NameTest}
@@ -8,7 +8,6 @@ use Rattle.iris_xpath.specs.declared.expression.NameTest.TheVariants.{Any, Kind,
 use Rattle.iris_xpath.specs.declared.expression.Step.{Step}
 use Rattle.iris_xpath.specs.declared.expression.Part.{Part}
 use Rattle.iris_xpath.specs.declared.expression.Attribute.{Attribute}
-use Rattle.iris_xpath.specs.declared.expression.Path.{Path}
 use Rattle.iris_xpath.specs.declared.expression.Comparison.{Comparison}
 use Rattle.iris_xpath.specs.declared.expression.Comparison.TheVariants.{Equal, NotEqual, Less, LessOrEqual, Greater, GreaterOrEqual}
 use Rattle.iris_xpath.specs.declared.expression.Operand.{Operand}
@@ -21,9 +20,15 @@ use Rattle.iris_xpath.specs.Thin.{Equals, Main}
 
 -- ---- the tree of a thin query
 
+abbrev pub own_attribute : List ℕ → Operand Expression
+own_attribute name = operands.Path (record { parts = []; attribute = Some (record { separator = Slash; name = name }) })
+
+abbrev pub equality_layer : Equals → Expression-F Expression
+equality_layer e = Expression-F.Compare (own_attribute e.name) Equal (operands.Literal e.value)
+
 -- the expression `@name='value'`
 abbrev pub equality : Equals → Expression
-equality e = roll-Expression (Expression-F.Compare (operands.Path (record { parts = []; attribute = Some (record { separator = Slash; name = e.name }) })) Equal (operands.Literal e.value))
+equality e = roll-Expression (equality_layer e)
 
 -- a step with `/`, whose test is a kind
 abbrev pub whole_step : Main → Step Expression
@@ -87,3 +92,12 @@ is_thin_step s = is_slash s.separator && is_some (kind_of s.test) && list_all (�
 -- whether each step has `/`, a kind as its test, and predicates of the form `@name='value'` alone
 abbrev pub is_thin : Syntax → Bool
 is_thin query = list_all is_thin_step query
+
+-- ---- a thin query without its tree
+
+abbrev pub thin_step : Step Expression → Main
+thin_step s = record { kind = unwrap_or (kind_of s.test) []; predicates = filter_map equality_of s.predicates }
+
+-- the kinds and the equalities of a query. Only of a thin query are they all that it says.
+abbrev pub thin_of : Syntax → List Main
+thin_of query = map thin_step query
