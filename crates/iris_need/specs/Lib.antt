@@ -1,3 +1,4 @@
+pub mod Collected
 pub mod Needs
 pub mod Pieces
 pub mod Program

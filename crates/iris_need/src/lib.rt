@@ -3,7 +3,9 @@
 #![tactic(auto)]
 
 mod need;
+mod needs;
 mod view;
+mod walk;
 
 pub use need::{Need, Start, State};
 pub use view::View;
