@@ -10,7 +10,7 @@ use Rattle.iris_json.specs.declared.city.CityError.TheVariants as city_errors
 use Rattle.iris_json.specs.Lines.{ReadsLine, GivesLine, RefusesLine}
 use Rattle.iris_json.specs.CityLine.{ReadsCity, GivesCity, RefusesCity}
 use Rattle.iris_tree.specs.Universe.{Node}
-use Rattle.iris_xpath.specs.Thin.{Syntax}
+use Rattle.iris_xpath.specs.Syntax.{Syntax}
 use Rattle.iris_xpath.specs.Grammar.{Reads, Within}
 use Rattle.iris_xpath.specs.Gives.{Gives}
 use Rattle.iris_xpath.specs.declared.error.QueryError.{QueryError}

@@ -4,7 +4,7 @@ use Rattle.iris_json.specs.declared.line.Line.TheVariants as lines
 use Rattle.iris_json.specs.declared.line.LineError.{LineError}
 use Rattle.iris_json.specs.declared.out.Why.TheVariants.{Shape}
 use Rattle.iris_json.specs.Lines.{ReadsLine, RefusesLine}
-use Rattle.iris_xpath.specs.Thin.{Syntax}
+use Rattle.iris_xpath.specs.Syntax.{Syntax}
 use Rattle.iris_xpath.specs.Grammar.{Reads, Within}
 use Rattle.iris_cli.specs.declared.event.Event.{Event}
 use Rattle.iris_cli.specs.declared.event.Event.TheVariants as events

@@ -2,7 +2,7 @@
 ghost use Rattle.std.specs.Prelude.{◌≡◌, map, IfOk, option_copied, option_map, slice_get};
 ghost use Rattle.std.specs.List.{filter_map};
 ghost use Rattle.iris_json.specs.Render.{element_data, item_data, item_at, rendered};
-ghost use Rattle.iris_xpath.specs.ThinMeaning.{selected};
+ghost use Rattle.iris_xpath.specs.Meaning.{selected};
 ghost use Rattle.iris_select.specs.Places.{edges_of, element_at};
 
 use crate::place::Place;

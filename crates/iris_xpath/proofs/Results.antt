@@ -1,6 +1,6 @@
 -- What a reader's refusal says.
 use Rattle.std.proofs.Common.{◌≡◌, ℕ, List, refl, Err}
-use Rattle.iris_xpath.specs.Thin.{Syntax}
+use Rattle.iris_xpath.specs.Syntax.{Syntax}
 use Rattle.iris_xpath.specs.Gives.{Gives, GivesFront}
 use Rattle.iris_xpath.specs.declared.error.QueryError.{QueryError}
 use Rattle.iris_xpath.specs.declared.error.QueryError.TheVariants as errors

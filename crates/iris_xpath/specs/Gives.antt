@@ -1,7 +1,7 @@
 -- What reading gives where the value that is there is known. Only want of memory is free.
 use Rattle.std.specs.Prelude.{◌≡◌, ℕ, List, Result, Ok, Err}
 use denote.Ref.{Bor}
-use Rattle.iris_xpath.specs.Thin.{Syntax}
+use Rattle.iris_xpath.specs.Syntax.{Syntax}
 use Rattle.iris_xpath.specs.declared.error.QueryError.{QueryError}
 use Rattle.iris_xpath.specs.declared.error.QueryError.TheVariants.{Later, Memory}
 

@@ -1,4 +1,6 @@
 //! The syntax tree of a query: its steps, and the expressions in their predicates.
+ghost use Rattle.std.specs.Prelude.{◌≡◌, None, Some, MatchOption, option_copied};
+ghost use Rattle.iris_xpath.specs.ThinQuery.{kind_of, own_name, attribute_name, literal_text, equality_of};
 
 use iris_base::{Kind, Sequence, Text};
 use sqlite_items::Boxed;
@@ -82,7 +84,7 @@ pub enum Operand<E> {
 }
 
 /// What a predicate says of the place under test (XPath 1.0, 2.4 and 3.3 to 3.4).
-#[derive(Drop)]
+#[derive(Debug, Drop)]
 pub enum Expression {
     /// At least one of them holds. There are two or more, and none is an `Or` itself.
     Or(Sequence<Expression>),
@@ -97,4 +99,73 @@ pub enum Expression {
         comparison: Comparison,
         right: Operand<Expression>,
     },
+}
+
+impl Step<Expression> {
+    /// The kind of the nodes that the step goes to, where its test is a kind.
+    pub fn kind(&self) -> Option<&Kind>
+        ensures { option_copied result ≡ kind_of self.now.test }
+    {
+        match &self.test {
+            NameTest::Kind(kind) => Some(kind),
+            NameTest::Any | NameTest::Tag(_) => None,
+        }
+    }
+}
+
+impl Path<Expression> {
+    // The name, where the path is an attribute of the place itself.
+    fn as_attribute(&self) -> Option<&str>
+        ensures { option_copied result ≡ own_name self.now.parts self.now.attribute }
+    {
+        if !self.parts.is_empty() {
+            return None;
+        }
+        match &self.attribute {
+            Some(attribute) => match attribute.separator {
+                Separator::Slash => Some(attribute.name.as_str()),
+                Separator::DoubleSlash => None,
+            },
+            None => None,
+        }
+    }
+}
+
+impl Operand<Expression> {
+    // The name, where it is an attribute of the place itself.
+    fn as_attribute(&self) -> Option<&str>
+        ensures { option_copied result ≡ attribute_name self.now }
+    {
+        match self {
+            Operand::Path(path) => path.as_attribute(),
+            Operand::Literal(_) | Operand::Number(_) => None,
+        }
+    }
+
+    // The text, where it is a literal.
+    fn as_literal(&self) -> Option<&str>
+        ensures { option_copied result ≡ literal_text self.now }
+    {
+        match self {
+            Operand::Literal(text) => Some(text.as_str()),
+            Operand::Path(_) | Operand::Number(_) => None,
+        }
+    }
+}
+
+impl Expression {
+    /// The name and the value, where the expression is `@name='value'`: an attribute of the place under
+    /// test, and the text that it is to equal.
+    pub fn as_equality(&self) -> Option<(&str, &str)>
+        ensures { MatchOption result (equality_of self.now ≡ None) (λ r. equality_of self.now ≡ Some (record { name = r.0.now; value = r.1.now })) }
+    {
+        match self {
+            Expression::Compare {
+                left,
+                comparison: Comparison::Equal,
+                right,
+            } => Some((left.as_attribute()?, right.as_literal()?)),
+            _ => None,
+        }
+    }
 }

@@ -1,6 +1,8 @@
-//! The thin query language: steps of the main path with predicates on attributes, and their parser.
+//! Queries as syntax trees, and the parser of the thin form: steps of the main path with predicates on
+//! attributes.
 #![tactic(auto)]
 
+mod copying;
 mod error;
 mod expression;
 mod parser;
@@ -13,4 +15,4 @@ pub use expression::{
     Attribute, Comparison, Expression, NameTest, Operand, Part, Path, Separator, Step,
 };
 pub use parser::parse;
-pub use query::{Predicate, Query, Step as ThinStep};
+pub use query::Query;

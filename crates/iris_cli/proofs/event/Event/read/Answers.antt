@@ -2,7 +2,7 @@ use Rattle.std.proofs.Common.{ℕ, List, subst, Ok, Err}
 use Rattle.std.proofs.lemmas.Result.{err_from_is_err_and}
 use Rattle.iris_json.specs.declared.line.Line.{Line}
 use Rattle.iris_json.specs.Lines.{ReadsLine, GivesLine}
-use Rattle.iris_xpath.specs.Thin.{Syntax}
+use Rattle.iris_xpath.specs.Syntax.{Syntax}
 use Rattle.iris_xpath.specs.Grammar.{Reads, Within}
 use Rattle.iris_xpath.specs.Gives.{Gives}
 use Rattle.iris_cli.proofs.Refused.{refused_line, refused_audit}
