@@ -1,3 +1,5 @@
 pub mod Entries
+pub mod Starts
 pub mod States
 pub mod Thin
+pub mod Walking

@@ -1,24 +1,22 @@
 -- Looks as they are collected one after another: the unmet ones, or those that are met.
-use Rattle.std.specs.Prelude.{ℕ, ◌+◌, Bool, true, false, not, ◌&&◌, if◌then◌else◌, List, [], ◌∷◌, ◌++◌, drop, map, fold, Option, Some, None, option_map, option_and_then}
+use Rattle.std.specs.Prelude.{ℕ, ◌+◌, Bool, true, false, not, ◌&&◌, if◌then◌else◌, List, [], ◌∷◌, ◌++◌, map, fold, Option, Some, None, option_map, option_and_then}
+use Rattle.std.specs.Str.{bytes_eq}
 use Rattle.iris_base.specs.declared.name.Label.{Label}
 use Rattle.iris_tree.specs.declared.local.Local.{Local}
 use Rattle.iris_fragment.specs.declared.piece.Full.{Full}
 use Rattle.iris_fragment.specs.declared.piece.Piece.{Piece}
 use Rattle.iris_fragment.specs.declared.piece.Level.{Level}
 use Rattle.iris_json.specs.declared.item.Item.{Item}
-use Rattle.iris_xpath.specs.declared.expression.Step.{Step}
-use Rattle.iris_xpath.specs.declared.expression.Expression.{Expression}
-use Rattle.iris_xpath.specs.Syntax.{MainStep, main_of}
+use Rattle.iris_xpath.specs.Thin.{Main}
 use Rattle.iris_need.specs.declared.need.Need.{Need}
-use Rattle.iris_need.specs.declared.need.State.{State}
-use Rattle.iris_need.specs.declared.need.State.TheVariants as states
 use Rattle.iris_need.specs.declared.needs.Asked.{Asked}
 use Rattle.iris_need.specs.declared.walk.Looks.{Looks}
 use Rattle.iris_need.specs.declared.walk.Looks.TheVariants.{Unmet, Met}
 use Rattle.iris_need.specs.Pieces.{Pieces, piece_at, view_of}
 use Rattle.iris_need.specs.Needs.{with_look, without_states, is_under, seen_from}
-use Rattle.iris_need.specs.Run.{View, Run, run, Seen, seen_with, meets, see_ids}
-use Rattle.iris_need.specs.Program.{Spot, node_spot, passes_label, gather, where_so, tested, goes}
+use Rattle.iris_need.specs.Run.{View, Run, run, Seen, meets}
+use Rattle.iris_need.specs.Program.{where_so, last_label}
+use Rattle.iris_need.specs.ThinProgram.{thin_tested, thin_goes}
 
 -- ---- as the code holds them
 
@@ -34,6 +32,7 @@ abbrev pub taken : Looks → Bool → List Need → Need → List Need
 taken Unmet met needs look = if met then needs else with_look needs look
 taken Met met needs look = if met then with_look needs (without_states look) else needs
 
+-- only what is at or under a name is ever missing
 abbrev pub taken_under : Looks → Bool → Bool → List Need → Need → List Need
 taken_under Unmet under met needs look = if under && not met then with_look needs look else needs
 taken_under Met under met needs look = if met then with_look needs (without_states look) else needs
@@ -63,14 +62,11 @@ full_at pieces name = option_and_then full_of (piece_at pieces name)
 
 -- ---- the steps of a walk
 
--- the predicates of a step at a node, and what comes after it
-abbrev pub followed : Label → ℕ → MainStep → List MainStep → List Label → Label → Run (List Item)
-followed top i s ss name l = tested top i s (node_spot name l) (goes top (i + 1) ss (node_spot name l))
+-- a step at a child: its label is tested, then the predicates, and then the further steps go on
+abbrev pub visited : ℕ → Main → List Main → List Label → Label → Run (List Item)
+visited i m ms name child = where_so (bytes_eq child.kind m.kind) (thin_tested i m (name ++ child ∷ []) child (thin_goes (i + 1) ms (name ++ child ∷ []) child))
 
--- the same at a child, where its label passes the test
-abbrev pub visited : Label → ℕ → MainStep → List MainStep → List Label → Label → Run (List Item)
-visited top i s ss name child = where_so (passes_label child s.test) (followed top i s ss (name ++ child ∷ []) child)
-
--- a step to the children of a node
-abbrev pub stepped : Label → State → ℕ → MainStep → List MainStep → List Label → Run (List Item)
-stepped top state i s ss name = see_ids name (state ∷ []) (gather (visited top i s ss name))
+-- the last label of a name, as far as it has one
+abbrev pub bottom : Label → List Label → Label
+bottom top [] = top
+bottom top (l ∷ name) = last_label l name

@@ -3,3 +3,5 @@ pub mod Needs
 pub mod Pieces
 pub mod Program
 pub mod Run
+pub mod Starts
+pub mod ThinProgram

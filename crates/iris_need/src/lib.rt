@@ -2,10 +2,12 @@
 //! lacks nothing.
 #![tactic(auto)]
 
+mod evaluate;
 mod need;
 mod needs;
 mod view;
 mod walk;
 
+pub use evaluate::{missing, support};
 pub use need::{Need, Start, State};
 pub use view::View;
