@@ -1,6 +1,6 @@
 -- The program of a thin query from any start.
-use Rattle.std.proofs.Common.{◌≡◌, ℕ, ◌+◌, ◌<◌, ◌≢◌, length, get_or, take as take_first, Bool, true, false, not, cond, ◌&&◌, List, [], ◌∷◌, ◌++◌, map, drop, filter, fold, Option, Some, None, refl, ap, sym, ◌∙◌, subst}
-use Rattle.std.specs.List.{list_all}
+use Rattle.std.proofs.Common.{◌≡◌, ℕ, ◌+◌, ◌<◌, ◌≢◌, IsTrue, is_some, rules, length, get_or, take as take_first, Bool, true, false, cond, ◌&&◌, List, [], ◌∷◌, ◌++◌, map, drop, filter, fold, Option, Some, None, refl, ap, sym, ◌∙◌, subst}
+use Rattle.std.specs.List.{list_all, filter_map}
 use Rattle.std.proofs.lemmas.List.{drop-map, take-append-drop}
 use Rattle.std.proofs.lemmas.List.Folds.{list_all-append}
 use Rattle.iris_base.specs.declared.name.Label.{Label}
@@ -14,7 +14,7 @@ use Rattle.iris_xpath.specs.ThinQuery as thin
 use Rattle.iris_xpath.proofs.Reached.{and_true}
 use Rattle.iris_xpath.specs.Syntax.{Syntax, Condition, condition_of, MainStep, main_of}
 use Rattle.iris_xpath.specs.Thin.{Equals, Main}
-use Rattle.iris_xpath.specs.ThinQuery.{equality, whole_step, is_thin, thin_of}
+use Rattle.iris_xpath.specs.ThinQuery.{equality, equality_of, whole_step, is_thin, thin_of}
 use Rattle.iris_xpath.proofs.ThinQuery.{condition_is, thin_is}
 use Rattle.iris_need.specs.declared.need.Need.{Need}
 use Rattle.iris_need.specs.declared.need.Start.{Start}
@@ -23,14 +23,14 @@ use Rattle.iris_need.specs.declared.need.State.TheVariants as states
 use Rattle.iris_need.specs.declared.walk.Looks.{Looks}
 use Rattle.iris_need.specs.declared.walk.Looks.TheVariants.{Unmet, Met}
 use Rattle.iris_need.specs.Pieces.{Pieces, piece_at, view_of}
-use Rattle.iris_need.specs.Needs.{with_look, merged, is_under, seen_from, is_missing, without_states, missing_of, support_of, looks}
-use Rattle.iris_need.specs.Run.{Run, give, next, View, Out, Seen, meets, run}
-use Rattle.iris_need.specs.Program.{gather, join, where_so, and_so, document_spot, node_spot, spot_of, last_label, Marks, holds, all_hold, tested_at, tested, goes, go_at, seek_at, test_at, enter, own_look, program_from, program}
+use Rattle.iris_need.specs.Needs.{with_look, is_under, seen_from, is_missing, without_states, missing_of, support_of, looks}
+use Rattle.iris_need.specs.Run.{Run, give, next, View, Out, Seen, meets}
+use Rattle.iris_need.specs.Program.{gather, join, where_so, and_so, document_spot, node_spot, last_label, Marks, holds, all_hold, tested_at, goes, go_at, seek_at, test_at, enter, own_look, program_from, program}
 use Rattle.iris_need.specs.ThinProgram.{thin_from, thin_goes_on, thin_seeks, thin_enter}
 use Rattle.iris_need.specs.Starts.{entered, from_top_if, top_tests, top_enter}
 use Rattle.iris_need.specs.Collected.{take, collected, full_at}
-use Rattle.iris_need.proofs.Walking.{cut_at, rest_thin, collected_give, no_ids, with_ids, no_full, with_full}
-use Rattle.iris_need.proofs.Thin.{Same, same, same_next, same_join, same_gather, equalities, thin_steps, goes_is, from_top, enter_is}
+use Rattle.iris_need.proofs.Walking.{cut_at, one_more, rest_thin, collected_give, collected_both, no_ids, with_ids, no_full, with_full}
+use Rattle.iris_need.proofs.Thin.{Same, same, same_next, same_join, same_gather, equalities, thin_steps, from_top, enter_is}
 
 -- ---- at the document
 
@@ -159,13 +159,13 @@ own_full which above pieces needs name level u h = rw h (by_seen (full_at pieces
 -- ---- the step of a number
 
 pub steps_cut : (steps : Syntax) (i : ℕ) (x : Step Expression) → i < length steps → x ≡ get_or steps i x → drop i (thin_of steps) ≡ thin.thin_step x ∷ thin_of (drop (i + 1) steps)
-steps_cut steps i x h e = drop-map thin.thin_step i steps ∙ ap (map thin.thin_step) (cut_at steps i x h e)
+steps_cut steps i x h e = drop-map thin.thin_step i steps ∙ ap (map thin.thin_step) (cut_at steps i x x h e)
 
 pub thin_from_there : (steps : Syntax) (i : ℕ) (x : Step Expression) → i < length steps → x ≡ get_or steps i x → is_thin steps ≡ true → (thin.is_thin_step x ≡ true) × (is_thin (drop (i + 1) steps) ≡ true)
 thin_from_there steps i x h e t =
     let whole : list_all thin.is_thin_step (take_first i steps ++ drop i steps) ≡ true = ap (list_all thin.is_thin_step) (take-append-drop i steps) ∙ t in
     let back : list_all thin.is_thin_step (drop i steps) ≡ true = (and_true (list_all thin.is_thin_step (take_first i steps)) (list_all thin.is_thin_step (drop i steps)) (sym (list_all-append thin.is_thin_step (take_first i steps) (drop i steps)) ∙ whole)).1 in
-    rest_thin thin.is_thin_step (drop i steps) (drop (i + 1) steps) x back (cut_at steps i x h e)
+    rest_thin thin.is_thin_step (drop i steps) (drop (i + 1) steps) x back (cut_at steps i x x h e)
 
 -- ---- at the document
 
@@ -176,9 +176,54 @@ top_none which above pieces needs top i ms rest m h n = rw h (by_predicates m.pr
     by_predicates [] n = absurd (n refl)
     by_predicates (e ∷ es) n = collected_give which above pieces needs []
 
+equalities_of : (xs : List Expression) → list_all (λ e. is_some (equality_of e)) xs ≡ true → filter_map equality_of xs ≡ [] → xs ≡ []
+equalities_of [] t h = refl
+equalities_of (x ∷ xs) t h = first (equality_of x) refl
+  where
+    first : (o : Option Equals) → equality_of x ≡ o → x ∷ xs ≡ []
+    first None q =
+        let bad : false ≡ true = rw q at (and_true (is_some (equality_of x)) (list_all (λ e. is_some (equality_of e)) xs) t).0 in
+        absurd (cc)
+    first (Some e) q =
+        let bad : e ∷ filter_map equality_of xs ≡ [] = rw q at h in
+        absurd (cc)
+
+-- a thin step that has a predicate has an equality
+pub has_equality : (s : Step Expression) (b : Bool) → thin.is_thin_step s ≡ true → (s.predicates ≡ [] → IsTrue b) → b ≡ false → (thin.thin_step s).predicates ≢ []
+has_equality s b t h f n =
+    let all = (and_true (thin.is_slash s.separator && is_some (thin.kind_of s.test)) (list_all (λ e. is_some (equality_of e)) s.predicates) t).1 in
+    let holds : IsTrue false = subst (λ (c : Bool). IsTrue c) f (h (equalities_of s.predicates all n)) in
+    absurd (search rules)
+
 pub top_last : (which : Looks) (above : List Label) (pieces : Pieces) (needs : List Need) (top : Label) (i : ℕ) (ms : List Main) (x : Step Expression) (rest : Syntax) → ms ≡ thin.thin_step x ∷ thin_of rest → rest ≡ [] → collected which above pieces needs (top_tests top i ms) ≡ needs
 top_last which above pieces needs top i ms x rest h n = rw (h, n) (by_predicates (thin.thin_step x).predicates)
   where
     by_predicates : (es : List Equals) → collected which above pieces needs (from_top_if es (give [])) ≡ needs
     by_predicates [] = collected_give which above pieces needs []
     by_predicates (e ∷ es) = collected_give which above pieces needs []
+
+-- ---- a start at a node
+
+last_snoc : (a : Label) (xs : List Label) (l : Label) → last_label a (xs ++ l ∷ []) ≡ l
+last_snoc a [] l = refl
+last_snoc a (x ∷ xs) l = last_snoc x xs l
+
+last_of : (name up : List Label) (l : Label) → name ≡ up ++ l ∷ [] → (x : Label) × (rest : List Label) × (name ≡ x ∷ rest) × (last_label x rest ≡ l)
+last_of name [] l h = (l, [], h, refl)
+last_of name (a ∷ up) l h = (a, up ++ l ∷ [], h, last_snoc a up l)
+
+pub from_node_on : (which : Looks) (above : List Label) (pieces : Pieces) (needs after new : List Need) (query : Syntax) (start : Start) (name up : List Label) (label : Label) (states : List State) → is_thin query ≡ true → start.name ≡ up ++ label ∷ [] → name ≡ start.name → states ≡ start.states
+    → after ≡ collected which above pieces needs (own_look name start.level) → new ≡ collected which above pieces after (gather (thin_enter (thin_of query) name label) states) → new ≡ collected which above pieces needs (program query start)
+from_node_on which above pieces needs after new query start name up label states t l n s a h =
+    let last = last_of start.name up label l in
+    h ∙ ap (λ (ns : List Need). collected which above pieces ns (gather (thin_enter (thin_of query) name label) states)) a
+    ∙ sym (collected_both which above pieces needs (λ xs ys. xs ++ ys) (own_look name start.level) (gather (thin_enter (thin_of query) name label) states))
+    ∙ ap (λ (m : List Label). collected which above pieces needs (join (own_look m start.level) (gather (thin_enter (thin_of query) m label) states))) n
+    ∙ ap (λ (ss : List State). collected which above pieces needs (join (own_look start.name start.level) (gather (thin_enter (thin_of query) start.name label) ss))) s
+    ∙ ap (λ (m : Label). collected which above pieces needs (join (own_look start.name start.level) (gather (thin_enter (thin_of query) start.name m) start.states))) (sym last.3)
+    ∙ sym (collected_node which above pieces needs query start last.0 last.1 t last.2)
+
+pub enter_more : (which : Looks) (above : List Label) (pieces : Pieces) (q : List Main) (label : Label) (name m : List Label) (xs : List State) (i : ℕ) (d : State) (old new all : List Need) → i < length xs → m ≡ name → new ≡ collected which above pieces old (thin_enter q m label (get_or xs i d))
+    → collected which above pieces old (gather (thin_enter q name label) (drop i xs)) ≡ all → collected which above pieces new (gather (thin_enter q name label) (drop (i + 1) xs)) ≡ all
+enter_more which above pieces q label name m xs i d old new all lt e h o =
+    one_more which above pieces (thin_enter q name label) xs i (get_or xs i d) d old new all lt refl (h ∙ ap (λ (n : List Label). collected which above pieces old (thin_enter q n label (get_or xs i d))) e) o

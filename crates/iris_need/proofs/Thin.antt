@@ -8,7 +8,6 @@ use Rattle.iris_base.specs.declared.name.Label.{Label}
 use Rattle.iris_base.specs.NameOrder.{names_equiv}
 use Rattle.iris_tree.specs.Attrs.{value_of}
 use Rattle.iris_tree.specs.Universe.{Node}
-use Rattle.iris_json.specs.declared.item.Item.{Item}
 use Rattle.iris_xpath.specs.declared.expression.Comparison.TheVariants.{Equal}
 use Rattle.iris_xpath.specs.declared.expression.NameTest.TheVariants.{Kind}
 use Rattle.iris_xpath.specs.declared.expression.Separator.TheVariants.{Slash}
@@ -24,7 +23,7 @@ use Rattle.iris_need.specs.declared.need.State.TheVariants as states
 use Rattle.iris_need.specs.Needs.{from_document}
 use Rattle.iris_need.specs.Program.{gather, join, where_so, and_so, Spot, node_spot, document_spot, room, Marks, from_node, is_id, own_attribute, holds, all_hold, some_end, found, tested_at, tested, goes, go_at, seek_at, test_at, enter, program}
 use Rattle.iris_need.specs.ThinProgram.{has_text, all_have_text, thin_tested, thin_step, thin_goes, thin_from, thin_seeks, thin_goes_on, thin_tests, thin_enter}
-use Rattle.iris_need.specs.Run.{Run, give, see_ids, see_full, both, next, Out, View, Seen, ids_known, full_known, after, after_ids, after_full, pair_value, run, eval}
+use Rattle.iris_need.specs.Run.{Run, give, see_ids, both, next, Out, View, Seen, ids_known, full_known, after, after_ids, after_full, pair_value, run, eval}
 
 -- ---- programs that are the same to whoever runs them
 

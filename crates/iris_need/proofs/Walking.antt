@@ -1,5 +1,5 @@
 -- What is collected over a program, and what it gives, part by part.
-use Rattle.std.proofs.Common.{◌≡◌, ℕ, zero, suc, ◌+◌, ◌-◌, ◌<◌, ◌≤◌, Bool, true, false, not, cond, ◌&&◌, List, [], ◌∷◌, ◌++◌, length, get_or, drop, map, filter, fold, Option, Some, None, option_map, option_and_then, refl, sym, ap, ◌∙◌, append-nil, append_assoc, add-one, drop-cons, arith, unwrap_or, MatchOption}
+use Rattle.std.proofs.Common.{◌≡◌, ℕ, zero, suc, ◌+◌, ◌-◌, ◌<◌, ◌≤◌, Bool, true, false, not, cond, List, [], ◌∷◌, ◌++◌, length, get_or, drop, fold, Option, Some, None, option_map, option_and_then, refl, sym, ap, ◌∙◌, append-nil, add-one, drop-cons, arith, unwrap_or, MatchOption}
 use Rattle.std.proofs.lemmas.List.{drop_all}
 use Rattle.std.proofs.lemmas.List.Sums.{fold-append}
 use Rattle.std.specs.List.{list_all, filter_map}
@@ -9,7 +9,6 @@ use Rattle.iris_base.specs.NameOrder.{label_eq, labels_equiv}
 use Rattle.iris_tree.specs.declared.local.Local.{Local}
 use Rattle.iris_fragment.specs.declared.piece.Full.{Full}
 use Rattle.iris_fragment.specs.declared.piece.Piece.{Piece}
-use Rattle.iris_fragment.specs.declared.piece.Level.{Level}
 use Rattle.iris_fragment.specs.declared.piece.Level.TheVariants.{Ids, Full as WithLocal}
 use Rattle.iris_tree.specs.Attrs.{value_of}
 use Rattle.iris_tree.specs.Universe.{node, nodes_of}
@@ -24,9 +23,9 @@ use Rattle.iris_need.specs.declared.need.State.TheVariants as states
 use Rattle.iris_need.specs.declared.walk.Looks.{Looks}
 use Rattle.iris_need.specs.declared.walk.Looks.TheVariants.{Unmet, Met}
 use Rattle.iris_need.specs.Pieces.{Pieces, piece_at, known_of, view_of}
-use Rattle.iris_need.specs.Needs.{with_look, without_states, is_under, seen_from}
-use Rattle.iris_need.specs.Run.{Known, View, Run, give, see_ids, see_full, both, next, Out, Seen, ids_known, full_known, seen_with, after, after_ids, after_full, pair_value, run, meets, meets_known}
-use Rattle.iris_need.specs.Program.{each, join, gather, where_so, and_so, is_id, room, node_spot, subtree, found}
+use Rattle.iris_need.specs.Needs.{with_look, is_under, seen_from}
+use Rattle.iris_need.specs.Run.{Known, View, Run, give, see_ids, see_full, both, next, Out, Seen, ids_known, full_known, seen_with, after, after_ids, after_full, run, meets}
+use Rattle.iris_need.specs.Program.{each, gather, where_so, and_so, is_id, room, node_spot, subtree, found}
 use Rattle.iris_need.specs.ThinProgram.{has_text, all_have_text, thin_tested, thin_goes}
 use Rattle.iris_need.specs.Collected.{taken, take, collected, given, full_in, full_of, full_at, visited}
 
@@ -170,26 +169,26 @@ collected_both which above pieces needs f r s = fold-append (take which above (v
 
 -- ---- loops over children, where what is left to do stands in the invariant
 
-pub cut_at : {X : Type 0} (xs : List X) (i : ℕ) (x : X) → i < length xs → x ≡ get_or xs i x → drop i xs ≡ x ∷ drop (i + 1) xs
-cut_at {X = X} xs i x h e = rw add-one (drop-cons xs i x h) ∙ ap (λ (y : X). y ∷ drop (i + 1) xs) (sym e)
+pub cut_at : {X : Type 0} (xs : List X) (i : ℕ) (x d : X) → i < length xs → x ≡ get_or xs i d → drop i xs ≡ x ∷ drop (i + 1) xs
+cut_at {X = X} xs i x d h e = rw add-one (drop-cons xs i d h) ∙ ap (λ (y : X). y ∷ drop (i + 1) xs) (sym e)
 
-pub one_more : (which : Looks) (above : List Label) (pieces : Pieces) {X A : Type 0} (F : X → Run (List A)) (xs : List X) (i : ℕ) (x : X) (old new all : List Need) → i < length xs → x ≡ get_or xs i x → new ≡ collected which above pieces old (F x)
+pub one_more : (which : Looks) (above : List Label) (pieces : Pieces) {X A : Type 0} (F : X → Run (List A)) (xs : List X) (i : ℕ) (x d : X) (old new all : List Need) → i < length xs → x ≡ get_or xs i d → new ≡ collected which above pieces old (F x)
     → collected which above pieces old (gather F (drop i xs)) ≡ all → collected which above pieces new (gather F (drop (i + 1) xs)) ≡ all
-one_more which above pieces F xs i x old new all h e n o =
+one_more which above pieces F xs i x d old new all h e n o =
     ap (λ (ns : List Need). collected which above pieces ns (gather F (drop (i + 1) xs))) n
     ∙ sym (collected_both which above pieces old (λ ys zs. ys ++ zs) (F x) (gather F (drop (i + 1) xs)))
-    ∙ ap (λ ys. collected which above pieces old (gather F ys)) (sym (cut_at xs i x h e)) ∙ o
+    ∙ ap (λ ys. collected which above pieces old (gather F ys)) (sym (cut_at xs i x d h e)) ∙ o
 
 pub all_done : (which : Looks) (above : List Label) (pieces : Pieces) {X A : Type 0} (F : X → Run (List A)) (xs : List X) (i : ℕ) (new all : List Need) → length xs ≤ i → collected which above pieces new (gather F (drop i xs)) ≡ all → new ≡ all
 all_done which above pieces F xs i new all h o =
     sym (collected_give which above pieces new []) ∙ ap (λ ys. collected which above pieces new (gather F ys)) (sym (drop_all i xs h)) ∙ o
 
-pub each_more : (which : Looks) (above : List Label) (pieces : Pieces) {X A : Type 0} (F : X → Run A) (xs : List X) (i : ℕ) (x : X) (old new all : List Need) → i < length xs → x ≡ get_or xs i x → new ≡ collected which above pieces old (F x)
+pub each_more : (which : Looks) (above : List Label) (pieces : Pieces) {X A : Type 0} (F : X → Run A) (xs : List X) (i : ℕ) (x d : X) (old new all : List Need) → i < length xs → x ≡ get_or xs i d → new ≡ collected which above pieces old (F x)
     → collected which above pieces old (each F (drop i xs)) ≡ all → collected which above pieces new (each F (drop (i + 1) xs)) ≡ all
-each_more which above pieces F xs i x old new all h e n o =
+each_more which above pieces F xs i x d old new all h e n o =
     ap (λ (ns : List Need). collected which above pieces ns (each F (drop (i + 1) xs))) n
     ∙ sym (collected_both which above pieces old (λ y ys. y ∷ ys) (F x) (each F (drop (i + 1) xs)))
-    ∙ ap (λ ys. collected which above pieces old (each F ys)) (sym (cut_at xs i x h e)) ∙ o
+    ∙ ap (λ ys. collected which above pieces old (each F ys)) (sym (cut_at xs i x d h e)) ∙ o
 
 pub each_done : (which : Looks) (above : List Label) (pieces : Pieces) {X A : Type 0} (F : X → Run A) (xs : List X) (i : ℕ) (new all : List Need) → length xs ≤ i → collected which above pieces new (each F (drop i xs)) ≡ all → new ≡ all
 each_done which above pieces F xs i new all h o =

@@ -1,11 +1,9 @@
 -- Looks as they are collected one after another: the unmet ones, or those that are met.
-use Rattle.std.specs.Prelude.{ℕ, ◌+◌, Bool, true, false, not, ◌&&◌, if◌then◌else◌, List, [], ◌∷◌, ◌++◌, map, fold, Option, Some, None, option_map, option_and_then}
+use Rattle.std.specs.Prelude.{ℕ, ◌+◌, Bool, not, ◌&&◌, if◌then◌else◌, List, [], ◌∷◌, ◌++◌, map, fold, Option, option_map, option_and_then}
 use Rattle.std.specs.Str.{bytes_eq}
 use Rattle.iris_base.specs.declared.name.Label.{Label}
-use Rattle.iris_tree.specs.declared.local.Local.{Local}
 use Rattle.iris_fragment.specs.declared.piece.Full.{Full}
 use Rattle.iris_fragment.specs.declared.piece.Piece.{Piece}
-use Rattle.iris_fragment.specs.declared.piece.Level.{Level}
 use Rattle.iris_json.specs.declared.item.Item.{Item}
 use Rattle.iris_xpath.specs.Thin.{Main}
 use Rattle.iris_need.specs.declared.need.Need.{Need}

@@ -19,10 +19,7 @@ use iris_xpath::{Expression, Query, Step};
 use std::alloc::Global;
 
 // The step of that number and those after it; none where there is no such step.
-fn step_at(
-    steps: &[Step<Expression>],
-    i: u32,
-) -> Option<(&Step<Expression>, &[Step<Expression>])>
+fn step_at(steps: &[Step<Expression>], i: u32) -> Option<(&Step<Expression>, &[Step<Expression>])>
     requires { is_thin steps.now ≡ true }
     ensures cut { MatchOption result (drop i (thin_of steps.now) ≡ []) (λ r. drop i (thin_of steps.now) ≡ thin.thin_step r.0.now ∷ thin_of r.1.now) }
     ensures thin { MatchOption result (Unit {0}) (λ r. (is_thin_step r.0.now ≡ true) × (is_thin r.1.now ≡ true)) }
@@ -223,11 +220,11 @@ impl<'a> Walk<'a> {
     {
         let states = start.states.as_slice();
         let mut name = start.name.copy()?;
-        let Some(label) = name.as_slice().last().copied() else {
+        let Some((label, _)) = start.name.as_slice().split_last() else {
             return self.enter_all_top(states, &start.top, steps, &mut name, needs);
         };
         self.look_at(&name, start.level, needs)?;
-        self.enter_all(states, steps, &label, &mut name, needs)
+        self.enter_all(states, steps, label, &mut name, needs)
     }
 }
 

@@ -1,4 +1,4 @@
-use Rattle.std.proofs.Common.{◌≡◌, ◌∙◌, sym, ap, refl, subst, List}
+use Rattle.std.proofs.Common.{◌∙◌, sym, ap, refl, subst, List}
 use Rattle.std.specs.BTreeMap.{insert_entry}
 use Rattle.iris_base.specs.declared.name.Label.{Label}
 use Rattle.iris_need.specs.Pieces.{Pieces, AreNamed, with_piece}

@@ -1,8 +1,7 @@
-use Rattle.std.proofs.Common.{◌≡◌, ◌∙◌, sym, ap, rules, true, false, ◌∷◌, [], List, Option, Some, None, Bool, length, ◌+◌, arith, is_some}
+use Rattle.std.proofs.Common.{◌≡◌, ◌∙◌, sym, ap, rules, true, false, ◌∷◌, [], List, Some, None, length, ◌+◌, arith, is_some}
 use Rattle.std.specs.List.{filter_map}
 use Rattle.std.proofs.lemmas.Result.{on_ok_weaker, IfOk-weaker}
 use Rattle.iris_xpath.specs.declared.expression.Expression.{Expression}
-use Rattle.iris_xpath.specs.Thin.{Equals}
 use Rattle.iris_xpath.specs.ThinQuery.{equality_of}
 use Rattle.iris_need.specs.declared.need.Need.{Need}
 use Rattle.iris_need.specs.Program.{is_id}

@@ -23,7 +23,7 @@ loop-child-init t c =
     let more : 0 < c.args.levels = omega (arith, c.if-levels-eq0.false) in
     record {
       looks = ap (λ (ns : List Need). collected c.args.self.now.takes c.args.self.now.above.now c.args.self.now.view.now ns (each (λ child. subtree (c.args.levels - 1) child (c.args.name.now ++ child ∷ [])) c.in-Some.ids.now)) c.in_ok-ids.ensures.look
-      ∙ sym (subtree_more c.args.self.now.takes c.args.self.now.above.now c.args.self.now.view.now c.args.needs.now c.args.levels c.args.label c.args.name.now (record { ids = c.in-Some.ids.now; local = c.in-Some.field-0-1.now }) c.requires.under some more);
+          ∙ sym (subtree_more c.args.self.now.takes c.args.self.now.above.now c.args.self.now.view.now c.args.needs.now c.args.levels c.args.label c.args.name.now (record { ids = c.in-Some.ids.now; local = c.in-Some.field-0-1.now }) c.requires.under some more);
       name = refl;
     }
 
@@ -38,7 +38,7 @@ loop-child-preserved t c =
     let looks : c.subtree.new.needs ≡ collected c.args.self.now.takes c.args.self.now.above.now c.args.self.now.view.now c.loop-child.needs (subtree (c.args.levels - 1) c.child-item.result (c.args.name.now ++ c.child-item.result ∷ [])) =
     c.in_ok-subtree.ensures.looks ∙ ap (λ (n : List Label). collected c.args.self.now.takes c.args.self.now.above.now c.args.self.now.view.now c.loop-child.needs (subtree (c.args.levels - 1) c.child-item.result n)) pushed in
     record {
-      looks = each_more c.args.self.now.takes c.args.self.now.above.now c.args.self.now.view.now (λ child. subtree (c.args.levels - 1) child (c.args.name.now ++ child ∷ [])) c.in-Some.ids.now c.loop-child.child-index c.child-item.result c.loop-child.needs c.subtree.new.needs _ c.loop-child-test.true c.child-item.is looks c.loop-child.invariant.looks;
+      looks = each_more c.args.self.now.takes c.args.self.now.above.now c.args.self.now.view.now (λ child. subtree (c.args.levels - 1) child (c.args.name.now ++ child ∷ [])) c.in-Some.ids.now c.loop-child.child-index c.child-item.result c.child-item.result c.loop-child.needs c.subtree.new.needs _ c.loop-child-test.true c.child-item.is looks c.loop-child.invariant.looks;
       name = popped c.pop.result c.subtree.new.name c.pop.new.self c.args.name.now c.child-item.result c.pop.ensures (c.in_ok-subtree.ensures.name ∙ pushed);
     }
 

@@ -1,4 +1,4 @@
-use Rattle.std.proofs.Common.{◌≡◌, ◌∙◌, ◌+◌, ◌∷◌, ◌++◌, [], sym, ap, refl, rules, List, Some, None, true, false, arith, length}
+use Rattle.std.proofs.Common.{◌≡◌, ◌∙◌, ◌+◌, ◌∷◌, ◌++◌, [], sym, ap, refl, rules, List, Some, None, false, arith}
 use Rattle.std.specs.List.{filter_map}
 use Rattle.std.specs.Str.{bytes_eq}
 use Rattle.std.proofs.lemmas.Result.{on_ok_weaker}
@@ -11,7 +11,7 @@ use Rattle.iris_need.specs.declared.need.State.TheVariants as states
 use Rattle.iris_need.specs.Pieces.{piece_at}
 use Rattle.iris_need.specs.Needs.{is_under}
 use Rattle.iris_need.specs.Program.{gather}
-use Rattle.iris_need.specs.ThinProgram.{all_have_text, thin_tested, thin_goes}
+use Rattle.iris_need.specs.ThinProgram.{all_have_text, thin_goes}
 use Rattle.iris_need.specs.Collected.{collected, given, visited}
 use Rattle.iris_need.proofs.Walking.{under_child, one_more, all_done, no_ids, with_ids, tested_stops, tested_goes, other_kind}
 use Rattle.iris_need.proofs.walk.Walk.+walking.Goals as goal
@@ -39,22 +39,32 @@ go-loop-child-init t c =
     let some : piece_at c.args.self.now.view.now c.args.name.now ≡ Some c.in-Some.piece.now = search rules in
     record {
       looks = ap (λ (ids : List Label). collected c.args.self.now.takes c.args.self.now.above.now c.args.self.now.view.now c.see_ids.new.needs (gather (visited c.args.i (thin.thin_step c.args.step.now) (thin_of c.args.rest.now) c.args.name.now) ids)) c.as_slice-child-items.ensures
-      ∙ ap (λ (ns : List Need). collected c.args.self.now.takes c.args.self.now.above.now c.args.self.now.view.now ns (gather (visited c.args.i (thin.thin_step c.args.step.now) (thin_of c.args.rest.now) c.args.name.now) c.in-Some.piece.now.ids)) c.in_ok-piece.ensures.look
-      ∙ sym (with_ids c.args.self.now.takes c.args.self.now.above.now c.args.self.now.view.now c.args.needs.now c.args.name.now (c.args.state ∷ []) c.in-Some.piece.now (gather (visited c.args.i (thin.thin_step c.args.step.now) (thin_of c.args.rest.now) c.args.name.now)) c.requires.under some).0;
+          ∙ ap (λ (ns : List Need). collected c.args.self.now.takes c.args.self.now.above.now c.args.self.now.view.now ns (gather (visited c.args.i (thin.thin_step c.args.step.now) (thin_of c.args.rest.now) c.args.name.now) c.in-Some.piece.now.ids)) c.in_ok-piece.ensures.look
+          ∙ sym (with_ids c.args.self.now.takes c.args.self.now.above.now c.args.self.now.view.now c.args.needs.now c.args.name.now (c.args.state ∷ []) c.in-Some.piece.now (gather (visited c.args.i (thin.thin_step c.args.step.now) (thin_of c.args.rest.now) c.args.name.now)) c.requires.under some).0;
       name = refl;
     }
 
 pub go-visit-requires : goal.go-visit-requires
-go-visit-requires t c =
-    (omega (arith, c.decreases), (c.requires.few, (c.requires.thin, (c.requires.further,
-    ap (λ (n : List Label). is_under (n ++ c.child-item.result ∷ []) c.args.self.now.above.now) c.loop-child.invariant.name ∙ under_child c.args.name.now c.args.self.now.above.now c.child-item.result c.requires.under))))
+go-visit-requires t c = (
+  omega (arith, c.decreases),
+  (
+    c.requires.few,
+    (
+      c.requires.thin,
+      (
+        c.requires.further,
+        ap (λ (n : List Label). is_under (n ++ c.child-item.result ∷ []) c.args.self.now.above.now) c.loop-child.invariant.name ∙ under_child c.args.name.now c.args.self.now.above.now c.child-item.result c.requires.under,
+      ),
+    ),
+  ),
+)
 
 pub go-loop-child-preserved : goal.go-loop-child-preserved
 go-loop-child-preserved t c =
     let looks : c.visit.new.needs ≡ collected c.args.self.now.takes c.args.self.now.above.now c.args.self.now.view.now c.loop-child.needs (visited c.args.i (thin.thin_step c.args.step.now) (thin_of c.args.rest.now) c.args.name.now c.child-item.result) =
     c.in_ok-visit.ensures.looks ∙ ap (λ (n : List Label). collected c.args.self.now.takes c.args.self.now.above.now c.args.self.now.view.now c.loop-child.needs (visited c.args.i (thin.thin_step c.args.step.now) (thin_of c.args.rest.now) n c.child-item.result)) c.loop-child.invariant.name in
     record {
-      looks = one_more c.args.self.now.takes c.args.self.now.above.now c.args.self.now.view.now (visited c.args.i (thin.thin_step c.args.step.now) (thin_of c.args.rest.now) c.args.name.now) c.as_slice-child-items.result.now c.loop-child.child-index c.child-item.result c.loop-child.needs c.visit.new.needs _ c.loop-child-test.true c.child-item.is looks c.loop-child.invariant.looks;
+      looks = one_more c.args.self.now.takes c.args.self.now.above.now c.args.self.now.view.now (visited c.args.i (thin.thin_step c.args.step.now) (thin_of c.args.rest.now) c.args.name.now) c.as_slice-child-items.result.now c.loop-child.child-index c.child-item.result c.child-item.result c.loop-child.needs c.visit.new.needs _ c.loop-child-test.true c.child-item.is looks c.loop-child.invariant.looks;
       name = c.in_ok-visit.ensures.name ∙ c.loop-child.invariant.name;
     }
 

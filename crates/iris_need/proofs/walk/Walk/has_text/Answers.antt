@@ -1,4 +1,4 @@
-use Rattle.std.proofs.Common.{◌≡◌, ◌∙◌, sym, ap, rules, true, false, ◌∷◌, [], Option, Some, None, Bool}
+use Rattle.std.proofs.Common.{◌≡◌, ◌∙◌, sym, ap, rules, true, false, ◌∷◌, [], Some, None, Bool}
 use Rattle.std.specs.Str.{bytes_eq}
 use Rattle.iris_need.specs.Program.{is_id}
 use Rattle.iris_need.specs.Collected.{full_at}

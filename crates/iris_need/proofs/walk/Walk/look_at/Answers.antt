@@ -1,7 +1,4 @@
-use Rattle.std.proofs.Common.{◌≡◌, ◌∙◌, sym, ap}
-use Rattle.iris_fragment.specs.declared.piece.Level.{Level}
-use Rattle.iris_need.specs.Program.{own_look}
-use Rattle.iris_need.specs.Collected.{collected}
+use Rattle.std.proofs.Common.{◌∙◌, sym}
 use Rattle.iris_need.proofs.Starts.{own_ids, own_full}
 use Rattle.iris_need.proofs.walk.Walk.look_at.Goals as goal
 
