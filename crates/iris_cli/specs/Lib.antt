@@ -6,5 +6,6 @@ pub mod Played
 pub mod Run
 pub mod Says
 pub mod Sessions
+pub mod Statuses
 pub mod Stepped
 pub mod Taken
