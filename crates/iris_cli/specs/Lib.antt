@@ -1,3 +1,4 @@
+pub mod Allowed
 pub mod Halt
 pub mod Lines
 pub mod Messages
