@@ -16,7 +16,8 @@ use Rattle.iris_json.specs.CityLine.{ReadsCity}
 use Rattle.iris_json.specs.Out.{count, cites_data, out_text}
 use Rattle.iris_json.specs.Render.{item_at}
 use Rattle.iris_xpath.specs.Syntax.{Syntax}
-use Rattle.iris_xpath.specs.Meaning.{selected, full_names}
+use Rattle.iris_xpath.specs.Meaning.{selected}
+use Rattle.iris_xpath.specs.ThinMeaning.{full_names}
 use Rattle.iris_book.specs.declared.entry.Entry.TheVariants as entries
 use Rattle.iris_book.specs.Book.{History, with_entry, latest, value_at, today, last_number_at}
 use Rattle.iris_cli.specs.declared.event.Event.{Event}

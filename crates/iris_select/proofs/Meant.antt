@@ -12,9 +12,13 @@ use Rattle.iris_tree.specs.declared.plain.Plain.TheViews.{out-Plain}
 use Rattle.iris_tree.specs.declared.plain.Plain.TheFolds.{fold_out-Plain}
 use Rattle.iris_tree.specs.Universe.{Node, node, Nodes, no_nodes, nodes, list_of, label_of, child_of, AllAfter, IsOrdered, AreOrdered}
 use Rattle.iris_tree.specs.Document.{Edge, position, label, Place, place_of, a_node, below_node, part_at_place, numbered, plain_places, plain_places_step, node_places, all_node_places, names_of, all_names_of}
-use Rattle.iris_xpath.specs.Syntax.{Main, Syntax}
-use Rattle.iris_xpath.specs.Meaning.{fits, tested_with_a_look, selected, full_names}
+use Rattle.iris_xpath.specs.Syntax.{Syntax}
+use Rattle.iris_xpath.specs.Meaning as tree
+use Rattle.iris_xpath.specs.Thin.{Main}
+use Rattle.iris_xpath.specs.ThinQuery.{is_thin, thin_of}
+use Rattle.iris_xpath.specs.ThinMeaning.{fits, tested_with_a_look, selected, full_names}
 use Rattle.iris_xpath.proofs.Reached.{Parts, is_end, is_edge, reached, looked, plain_never, selected_is, full_names_are}
+use Rattle.iris_xpath.proofs.ThinQuery.{selected_thin}
 use Rattle.iris_select.specs.Walk.{led_to, all_led_to, looked_at, all_looked_at}
 
 -- ---- lists
@@ -100,7 +104,7 @@ under_name above l ps =
     ∙ sym (map_map (λ place. place_of above ++ place) (λ place. label l ∷ place) ps)
 
 -- of a node and all below it, those to which steps lead
-at_node : (n : Node) (at : Parts) → (λ place. at (label (label_of n) ∷ place)) ≡ below_node n → (s : Main) (ss : Syntax) (ps : List Place)
+at_node : (n : Node) (at : Parts) → (λ place. at (label (label_of n) ∷ place)) ≡ below_node n → (s : Main) (ss : List Main) (ps : List Place)
     → filter (reached at (s ∷ ss)) (map (λ place. label (label_of n) ∷ place) ps) ≡ map (λ place. label (label_of n) ∷ place) (cond (fits (Some (a_node n)) s) (filter (reached (below_node n) ss) ps) [])
 at_node n at same s ss ps =
     filter_map_same (reached at (s ∷ ss)) (λ place. label (label_of n) ∷ place) ps
@@ -123,7 +127,7 @@ last_step local below =
     ap (λ (ps : List Place). [] ∷ ps)
     (filter-append is_end (numbered 0 (map plain_places local.plain)) (all_node_places below) ∙ rw (no_plain is_end (λ i place. refl) local.plain 0) (no_end_in below))
 
-further_step : (l : Label) (local : Local) (below : Nodes) (t : Main) (ts : Syntax)
+further_step : (l : Label) (local : Local) (below : Nodes) (t : Main) (ts : List Main)
     → filter (reached (below_node (node l local below)) (t ∷ ts)) ([] ∷ numbered 0 (map plain_places local.plain) ++ all_node_places below) ≡ filter (reached (below_node (node l local below)) (t ∷ ts)) (all_node_places below)
 further_step l local below t ts =
     let at = below_node (node l local below) in
@@ -141,7 +145,7 @@ more_found true above l names ps h = h ∙ under_name above l ps
 more_found false above l names ps h = refl
 
 mutual
-  led_node : (above : List Label) (n : Node) → IsOrdered n → (at : Parts) → (λ place. at (label (label_of n) ∷ place)) ≡ below_node n → (s : Main) (ss : Syntax)
+  led_node : (above : List Label) (n : Node) → IsOrdered n → (at : Parts) → (λ place. at (label (label_of n) ∷ place)) ≡ below_node n → (s : Main) (ss : List Main)
       → map place_of (led_to above n s ss) ≡ map (λ place. place_of above ++ place) (filter (reached at (s ∷ ss)) (node_places n))
   led_node above (node l local below) ordered at same s [] =
       let n = node l local below in
@@ -154,7 +158,7 @@ mutual
       ∙ sym (ap (map (λ place. place_of above ++ place)) (at_node n at same s (t ∷ ts) ([] ∷ numbered 0 (map plain_places local.plain) ++ all_node_places below)
       ∙ ap (λ (ps : List Place). map (λ place. label l ∷ place) (cond (fits (Some (a_node n)) s) ps [])) (further_step l local below t ts)))
 
-  led_nodes : (above : List Label) (ns : Nodes) → AreOrdered ns → (at : Parts) → Sees at ns → (s : Main) (ss : Syntax)
+  led_nodes : (above : List Label) (ns : Nodes) → AreOrdered ns → (at : Parts) → Sees at ns → (s : Main) (ss : List Main)
       → map place_of (all_led_to above ns s ss) ≡ map (λ place. place_of above ++ place) (filter (reached at (s ∷ ss)) (all_node_places ns))
   led_nodes above no_nodes ordered at sees s ss = refl
   led_nodes above (nodes n ns) ordered at sees s ss =
@@ -169,16 +173,16 @@ map_id [] = refl
 map_id (x ∷ xs) = ap (λ ys. x ∷ ys) (map_id xs)
 
 -- the walk finds the selected places
-led_is : (document : Node) → IsOrdered document → (s : Main) (ss : Syntax) → map place_of (led_to [] document s ss) ≡ selected document (s ∷ ss)
+led_is : (document : Node) → IsOrdered document → (s : Main) (ss : List Main) → map place_of (led_to [] document s ss) ≡ selected document (s ∷ ss)
 led_is document ordered s ss =
     led_node [] document ordered (part_at_place document) (sees_top document) s ss ∙ map_id _ ∙ sym (selected_is document (s ∷ ss))
 
 -- the places that an evaluation found from the document on
-pub places_found : (document : Node) (query : Syntax) (s : Main) (ss : Syntax) (above : List Label) (new old : List Place) → IsOrdered document → query ≡ s ∷ ss → above ≡ [] → old ≡ []
-    → new ≡ old ++ map place_of (led_to above document s ss) → new ≡ selected document query
-places_found document query s ss above new old ordered is top start h =
+pub places_found : (document : Node) (query : Syntax) (s : Main) (ss : List Main) (above : List Label) (new old : List Place) → IsOrdered document → is_thin query ≡ true → thin_of query ≡ s ∷ ss → above ≡ [] → old ≡ []
+    → new ≡ old ++ map place_of (led_to above document s ss) → new ≡ tree.selected document query
+places_found document query s ss above new old ordered thin is top start h =
     h ∙ ap (λ (ps : List Place). ps ++ map place_of (led_to above document s ss)) start ∙ ap (λ (a : List Label). map place_of (led_to a document s ss)) top ∙ led_is document ordered s ss
-    ∙ ap (selected document) (sym is)
+    ∙ ap (selected document) (sym is) ∙ sym (selected_thin document query thin)
 
 -- ---- the names
 
@@ -200,11 +204,11 @@ named_nodes t u h (nodes n ns) =
     ∙ sym (filter-append u (names_of n) (all_names_of ns))
 
 -- whether a node or one below it is looked into, by its name below the node
-abbrev looked_below : Node → Parts → Main → Syntax → List Label → Bool
+abbrev looked_below : Node → Parts → Main → List Main → List Label → Bool
 looked_below n a s ss m = (is_edge (label (label_of n) ∷ place_of m) && tested_with_a_look (a (place_of m)) s) || (fits (a []) s && looked ss a (place_of m))
 
 -- of a node and all below it, those that steps look into: the node itself, and those below it
-look_here : (n : Node) (at : Parts) → (λ place. at (label (label_of n) ∷ place)) ≡ below_node n → (s : Main) (ss : Syntax) (below : Nodes)
+look_here : (n : Node) (at : Parts) → (λ place. at (label (label_of n) ∷ place)) ≡ below_node n → (s : Main) (ss : List Main) (below : Nodes)
     → filter (λ name. looked (s ∷ ss) at (place_of name)) (map (λ m. label_of n ∷ m) ([] ∷ all_names_of below))
     ≡ map (λ m. label_of n ∷ m) (cond (tested_with_a_look (Some (a_node n)) s || (fits (Some (a_node n)) s && looked ss (below_node n) []))
     ([] ∷ cond (fits (Some (a_node n)) s) (filter (λ m. looked ss (below_node n) (place_of m)) (all_names_of below)) [])
@@ -243,7 +247,7 @@ further_looked false true above l names ks h = refl
 further_looked false false above l names ks h = refl
 
 mutual
-  look_node : (above : List Label) (n : Node) → IsOrdered n → (at : Parts) → (λ place. at (label (label_of n) ∷ place)) ≡ below_node n → (s : Main) (ss : Syntax)
+  look_node : (above : List Label) (n : Node) → IsOrdered n → (at : Parts) → (λ place. at (label (label_of n) ∷ place)) ≡ below_node n → (s : Main) (ss : List Main)
       → looked_at above n s ss ≡ map (λ m. above ++ m) (filter (λ name. looked (s ∷ ss) at (place_of name)) (names_of n))
   look_node above (node l local below) ordered at same s [] =
       let n = node l local below in
@@ -255,7 +259,7 @@ mutual
       (look_nodes (above ++ l ∷ []) below ordered (below_node n) (sees_children l local below ordered) t ts)
       ∙ sym (ap (map (λ m. above ++ m)) (look_here n at same s (t ∷ ts) below))
 
-  look_nodes : (above : List Label) (ns : Nodes) → AreOrdered ns → (at : Parts) → Sees at ns → (s : Main) (ss : Syntax)
+  look_nodes : (above : List Label) (ns : Nodes) → AreOrdered ns → (at : Parts) → Sees at ns → (s : Main) (ss : List Main)
       → all_looked_at above ns s ss ≡ map (λ m. above ++ m) (filter (λ name. looked (s ∷ ss) at (place_of name)) (all_names_of ns))
   look_nodes above no_nodes ordered at sees s ss = refl
   look_nodes above (nodes n ns) ordered at sees s ss =
@@ -265,13 +269,13 @@ mutual
       ∙ map-append (λ m. above ++ m) (filter (λ name. looked (s ∷ ss) at (place_of name)) (names_of n)) (filter (λ name. looked (s ∷ ss) at (place_of name)) (all_names_of ns)))
 
 -- the walk looks into the nodes that an evaluation looks into
-looked_is : (document : Node) → IsOrdered document → (s : Main) (ss : Syntax) → looked_at [] document s ss ≡ full_names document (s ∷ ss)
-looked_is document ordered s ss =
-    look_node [] document ordered (part_at_place document) (sees_top document) s ss ∙ map_id _ ∙ sym (full_names_are document (s ∷ ss))
+looked_is : (document : Node) → IsOrdered document → (query : Syntax) (s : Main) (ss : List Main) → thin_of query ≡ s ∷ ss → looked_at [] document s ss ≡ full_names document query
+looked_is document ordered query s ss is =
+    look_node [] document ordered (part_at_place document) (sees_top document) s ss ∙ map_id _
+    ∙ ap (λ (q : List Main). filter (λ name. looked q (part_at_place document) (place_of name)) (names_of document)) (sym is) ∙ sym (full_names_are document query)
 
 -- the names that an evaluation found from the document on
-pub names_found : (document : Node) (query : Syntax) (s : Main) (ss : Syntax) (above : List Label) (new old : List (List Label)) → IsOrdered document → query ≡ s ∷ ss → above ≡ [] → old ≡ []
+pub names_found : (document : Node) (query : Syntax) (s : Main) (ss : List Main) (above : List Label) (new old : List (List Label)) → IsOrdered document → thin_of query ≡ s ∷ ss → above ≡ [] → old ≡ []
     → new ≡ old ++ looked_at above document s ss → new ≡ full_names document query
 names_found document query s ss above new old ordered is top start h =
-    h ∙ ap (λ ms. ms ++ looked_at above document s ss) start ∙ ap (λ (a : List Label). looked_at a document s ss) top ∙ looked_is document ordered s ss
-    ∙ ap (full_names document) (sym is)
+    h ∙ ap (λ ms. ms ++ looked_at above document s ss) start ∙ ap (λ (a : List Label). looked_at a document s ss) top ∙ looked_is document ordered query s ss is

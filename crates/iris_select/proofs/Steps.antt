@@ -10,8 +10,8 @@ use Rattle.iris_base.proofs.Labels.{label_eq-Decides}
 use Rattle.iris_tree.specs.Universe.{Node, node, Nodes, no_nodes, nodes, nodes_of, list_of, label_of, children_of, child_of, AllAfter, IsOrdered, AreOrdered}
 use Rattle.iris_tree.specs.Document.{Place, place_of, a_node, names_of, all_names_of}
 use Rattle.iris_tree.specs.NodeCode.{nodes_of-list_of}
-use Rattle.iris_xpath.specs.Syntax.{Main, Syntax}
-use Rattle.iris_xpath.specs.Meaning.{fits, tested_with_a_look}
+use Rattle.iris_xpath.specs.Thin.{Main}
+use Rattle.iris_xpath.specs.ThinMeaning.{fits, tested_with_a_look}
 use Rattle.iris_select.specs.Walk.{led_to, all_led_to, names_from, looked_at, all_looked_at, IsOnlyFor}
 
 -- ---- a loop over children
@@ -57,26 +57,26 @@ names_more new old all name below l items i child within is sofar under labelled
 
 -- ---- the steps at children
 
-led_cons : (name : List Label) (s : Main) (ss : Syntax) (n : Node) (ns : List Node) → map place_of (all_led_to name (nodes_of (n ∷ ns)) s ss) ≡ map place_of (led_to name n s ss) ++ map place_of (all_led_to name (nodes_of ns) s ss)
+led_cons : (name : List Label) (s : Main) (ss : List Main) (n : Node) (ns : List Node) → map place_of (all_led_to name (nodes_of (n ∷ ns)) s ss) ≡ map place_of (led_to name n s ss) ++ map place_of (all_led_to name (nodes_of ns) s ss)
 led_cons name s ss n ns = map-append place_of (led_to name n s ss) (all_led_to name (nodes_of ns) s ss)
 
-pub led_more : (new old all : List Place) (name : List Label) (s : Main) (ss : Syntax) (items : List Node) (i : ℕ) (child : Node) → i < length items → child ≡ get_or items i child
+pub led_more : (new old all : List Place) (name : List Label) (s : Main) (ss : List Main) (items : List Node) (i : ℕ) (child : Node) → i < length items → child ≡ get_or items i child
     → old ++ map place_of (all_led_to name (nodes_of (drop i items)) s ss) ≡ all → new ≡ old ++ map place_of (led_to name child s ss) → new ++ map place_of (all_led_to name (nodes_of (drop (i + 1) items)) s ss) ≡ all
 led_more new old all name s ss items i child within is sofar done =
     one_more (λ n. map place_of (led_to name n s ss)) (λ ns. map place_of (all_led_to name (nodes_of ns) s ss)) (led_cons name s ss) new old all items i child within is sofar done
 
-pub looked_more : (new old all : List (List Label)) (name : List Label) (s : Main) (ss : Syntax) (items : List Node) (i : ℕ) (child : Node) → i < length items → child ≡ get_or items i child
+pub looked_more : (new old all : List (List Label)) (name : List Label) (s : Main) (ss : List Main) (items : List Node) (i : ℕ) (child : Node) → i < length items → child ≡ get_or items i child
     → old ++ all_looked_at name (nodes_of (drop i items)) s ss ≡ all → new ≡ old ++ looked_at name child s ss → new ++ all_looked_at name (nodes_of (drop (i + 1) items)) s ss ≡ all
 looked_more new old all name s ss items i child within is sofar done =
     one_more (λ n. looked_at name n s ss) (λ ns. all_looked_at name (nodes_of ns) s ss) (λ n ns. refl) new old all items i child within is sofar done
 
 -- ---- a step at a node
 
-pub led_none : (above : List Label) (n : Node) (s : Main) (ss : Syntax) → fits (Some (a_node n)) s ≡ false → led_to above n s ss ≡ []
+pub led_none : (above : List Label) (n : Node) (s : Main) (ss : List Main) → fits (Some (a_node n)) s ≡ false → led_to above n s ss ≡ []
 led_none above (node l local below) s [] h = rw h refl
 led_none above (node l local below) s (t ∷ ts) h = rw h refl
 
-pub looked_none : (above : List Label) (n : Node) (s : Main) (ss : Syntax) → fits (Some (a_node n)) s ≡ false → looked_at above n s ss ≡ cond (tested_with_a_look (Some (a_node n)) s) ((above ++ label_of n ∷ []) ∷ []) []
+pub looked_none : (above : List Label) (n : Node) (s : Main) (ss : List Main) → fits (Some (a_node n)) s ≡ false → looked_at above n s ss ≡ cond (tested_with_a_look (Some (a_node n)) s) ((above ++ label_of n ∷ []) ∷ []) []
 looked_none above (node l local below) s [] h = rw h refl
 looked_none above (node l local below) s (t ∷ ts) h = rw h (append-nil _)
 
@@ -86,29 +86,29 @@ led_last above (node l local below) s h = rw h refl
 pub looked_last : (above : List Label) (n : Node) (s : Main) → fits (Some (a_node n)) s ≡ true → looked_at above n s [] ≡ names_from (above ++ label_of n ∷ []) n
 looked_last above (node l local below) s h = rw h refl
 
-pub led_on : (above : List Label) (n : Node) (s t : Main) (ts : Syntax) → fits (Some (a_node n)) s ≡ true → led_to above n s (t ∷ ts) ≡ all_led_to (above ++ label_of n ∷ []) (nodes_of (children_of n)) t ts
+pub led_on : (above : List Label) (n : Node) (s t : Main) (ts : List Main) → fits (Some (a_node n)) s ≡ true → led_to above n s (t ∷ ts) ≡ all_led_to (above ++ label_of n ∷ []) (nodes_of (children_of n)) t ts
 led_on above (node l local below) s t ts h = rw h (ap (λ ns. all_led_to (above ++ l ∷ []) ns t ts) (sym (nodes_of-list_of below)))
 
-pub looked_on : (above : List Label) (n : Node) (s t : Main) (ts : Syntax) → fits (Some (a_node n)) s ≡ true
+pub looked_on : (above : List Label) (n : Node) (s t : Main) (ts : List Main) → fits (Some (a_node n)) s ≡ true
     → looked_at above n s (t ∷ ts) ≡ cond (tested_with_a_look (Some (a_node n)) s) ((above ++ label_of n ∷ []) ∷ []) [] ++ all_looked_at (above ++ label_of n ∷ []) (nodes_of (children_of n)) t ts
 looked_on above (node l local below) s t ts h =
     rw h (ap (λ ns. cond (tested_with_a_look (Some (a_node (node l local below))) s) ((above ++ l ∷ []) ∷ []) [] ++ all_looked_at (above ++ l ∷ []) ns t ts) (sym (nodes_of-list_of below)))
 
 -- what was found below a node that passes is what is found at it
-pub led_through : (name above : List Label) (l : Label) (n : Node) (s t : Main) (rest ts : Syntax) (passes : Bool) (new mid old : List Place) → mid ≡ old → name ≡ above ++ l ∷ [] → l ≡ label_of n → passes ≡ true → passes ≡ fits (Some (a_node n)) s → rest ≡ t ∷ ts
+pub led_through : (name above : List Label) (l : Label) (n : Node) (s t : Main) (rest ts : List Main) (passes : Bool) (new mid old : List Place) → mid ≡ old → name ≡ above ++ l ∷ [] → l ≡ label_of n → passes ≡ true → passes ≡ fits (Some (a_node n)) s → rest ≡ t ∷ ts
     → new ≡ mid ++ map place_of (all_led_to name (nodes_of (children_of n)) t ts) → new ≡ old ++ map place_of (led_to above n s rest)
 led_through name above l n s t rest ts passes new mid old unchanged named labelled holds is_fit is h =
     h ∙ ap (λ (ps : List Place). ps ++ map place_of (all_led_to name (nodes_of (children_of n)) t ts)) unchanged
     ∙ ap (λ (m : List Label). old ++ map place_of (all_led_to m (nodes_of (children_of n)) t ts)) (named ∙ ap (λ (x : Label). above ++ x ∷ []) labelled)
-    ∙ ap (λ ms. old ++ map place_of ms) (sym (ap (λ (q : Syntax). led_to above n s q) is ∙ led_on above n s t ts (sym is_fit ∙ holds)))
+    ∙ ap (λ ms. old ++ map place_of ms) (sym (ap (λ (q : List Main). led_to above n s q) is ∙ led_on above n s t ts (sym is_fit ∙ holds)))
 
-pub looked_through : (name above : List Label) (l : Label) (n : Node) (s t : Main) (rest ts : Syntax) (passes looks : Bool) (new mid old : List (List Label)) → mid ≡ old ++ cond looks (name ∷ []) [] → name ≡ above ++ l ∷ [] → l ≡ label_of n → passes ≡ true
+pub looked_through : (name above : List Label) (l : Label) (n : Node) (s t : Main) (rest ts : List Main) (passes looks : Bool) (new mid old : List (List Label)) → mid ≡ old ++ cond looks (name ∷ []) [] → name ≡ above ++ l ∷ [] → l ≡ label_of n → passes ≡ true
     → passes ≡ fits (Some (a_node n)) s → looks ≡ tested_with_a_look (Some (a_node n)) s → rest ≡ t ∷ ts → new ≡ mid ++ all_looked_at name (nodes_of (children_of n)) t ts → new ≡ old ++ looked_at above n s rest
 looked_through name above l n s t rest ts passes looks new mid old pushed named labelled holds is_fit is_look is h =
     h ∙ ap (λ ms. ms ++ all_looked_at name (nodes_of (children_of n)) t ts) pushed ∙ append_assoc old (cond looks (name ∷ []) []) _
     ∙ ap (λ (m : List Label). old ++ (cond looks (m ∷ []) [] ++ all_looked_at m (nodes_of (children_of n)) t ts)) (named ∙ ap (λ (x : Label). above ++ x ∷ []) labelled)
     ∙ ap (λ (b : Bool). old ++ (cond b ((above ++ label_of n ∷ []) ∷ []) [] ++ all_looked_at (above ++ label_of n ∷ []) (nodes_of (children_of n)) t ts)) is_look
-    ∙ ap (λ ms. old ++ ms) (sym (ap (λ (q : Syntax). looked_at above n s q) is ∙ looked_on above n s t ts (sym is_fit ∙ holds)))
+    ∙ ap (λ ms. old ++ ms) (sym (ap (λ (q : List Main). looked_at above n s q) is ∙ looked_on above n s t ts (sym is_fit ∙ holds)))
 
 -- ---- one label alone
 
@@ -143,31 +143,31 @@ gathered_only : {X : Type 0} (F : Node → List X) (l : Label) → ((n : Node) �
 gathered_only F l none no_nodes ordered = refl
 gathered_only F l none (nodes n ns) ordered = gathered_step F l none n ns (child_of l (list_of ns)) (label_eq (label_of n) l) refl ordered.1 (gathered_only F l none ns ordered.2)
 
-led_gathered : (name : List Label) (s : Main) (ss : Syntax) (ns : Nodes) → all_led_to name ns s ss ≡ gathered (λ n. led_to name n s ss) ns
+led_gathered : (name : List Label) (s : Main) (ss : List Main) (ns : Nodes) → all_led_to name ns s ss ≡ gathered (λ n. led_to name n s ss) ns
 led_gathered name s ss no_nodes = refl
 led_gathered name s ss (nodes n ns) = ap (λ xs. led_to name n s ss ++ xs) (led_gathered name s ss ns)
 
-looked_gathered : (name : List Label) (s : Main) (ss : Syntax) (ns : Nodes) → all_looked_at name ns s ss ≡ gathered (λ n. looked_at name n s ss) ns
+looked_gathered : (name : List Label) (s : Main) (ss : List Main) (ns : Nodes) → all_looked_at name ns s ss ≡ gathered (λ n. looked_at name n s ss) ns
 looked_gathered name s ss no_nodes = refl
 looked_gathered name s ss (nodes n ns) = ap (λ xs. looked_at name n s ss ++ xs) (looked_gathered name s ss ns)
 
-led_only : (name : List Label) (l : Label) (s : Main) (ss : Syntax) (n : Node) → IsOnlyFor l s → IsOrdered n → all_led_to name (nodes_of (children_of n)) s ss ≡ option_map_or (λ c. led_to name c s ss) (child_of l (children_of n)) []
+led_only : (name : List Label) (l : Label) (s : Main) (ss : List Main) (n : Node) → IsOnlyFor l s → IsOrdered n → all_led_to name (nodes_of (children_of n)) s ss ≡ option_map_or (λ c. led_to name c s ss) (child_of l (children_of n)) []
 led_only name l s ss (node k local below) only ordered =
     ap (λ ns. all_led_to name ns s ss) (nodes_of-list_of below) ∙ led_gathered name s ss below
     ∙ gathered_only (λ n. led_to name n s ss) l (λ n h. led_none name n s ss (only n h).0) below ordered
 
-looked_only : (name : List Label) (l : Label) (s : Main) (ss : Syntax) (n : Node) → IsOnlyFor l s → IsOrdered n → all_looked_at name (nodes_of (children_of n)) s ss ≡ option_map_or (λ c. looked_at name c s ss) (child_of l (children_of n)) []
+looked_only : (name : List Label) (l : Label) (s : Main) (ss : List Main) (n : Node) → IsOnlyFor l s → IsOrdered n → all_looked_at name (nodes_of (children_of n)) s ss ≡ option_map_or (λ c. looked_at name c s ss) (child_of l (children_of n)) []
 looked_only name l s ss (node k local below) only ordered =
     ap (λ ns. all_looked_at name ns s ss) (nodes_of-list_of below) ∙ looked_gathered name s ss below
     ∙ gathered_only (λ n. looked_at name n s ss) l (λ n h. looked_none name n s ss (only n h).0 ∙ rw ((only n h).1) refl) below ordered
 
 -- what was found at that child, or at none, is what is found at all children
-pub led_at_child : (name : List Label) (l : Label) (s : Main) (ss : Syntax) (n : Node) (o : Option Node) → IsOnlyFor l s → IsOrdered n → o ≡ child_of l (children_of n) → (new old : List Place)
+pub led_at_child : (name : List Label) (l : Label) (s : Main) (ss : List Main) (n : Node) (o : Option Node) → IsOnlyFor l s → IsOrdered n → o ≡ child_of l (children_of n) → (new old : List Place)
     → new ≡ old ++ map place_of (option_map_or (λ c. led_to name c s ss) o []) → new ≡ old ++ map place_of (all_led_to name (nodes_of (children_of n)) s ss)
 led_at_child name l s ss n o only ordered same new old h =
     h ∙ ap (λ (c : Option Node). old ++ map place_of (option_map_or (λ c. led_to name c s ss) c [])) same ∙ ap (λ xs. old ++ map place_of xs) (sym (led_only name l s ss n only ordered))
 
-pub looked_at_child : (name : List Label) (l : Label) (s : Main) (ss : Syntax) (n : Node) (o : Option Node) → IsOnlyFor l s → IsOrdered n → o ≡ child_of l (children_of n) → (new old : List (List Label))
+pub looked_at_child : (name : List Label) (l : Label) (s : Main) (ss : List Main) (n : Node) (o : Option Node) → IsOnlyFor l s → IsOrdered n → o ≡ child_of l (children_of n) → (new old : List (List Label))
     → new ≡ old ++ option_map_or (λ c. looked_at name c s ss) o [] → new ≡ old ++ all_looked_at name (nodes_of (children_of n)) s ss
 looked_at_child name l s ss n o only ordered same new old h =
     h ∙ ap (λ (c : Option Node). old ++ option_map_or (λ c. looked_at name c s ss) c []) same ∙ ap (λ xs. old ++ xs) (sym (looked_only name l s ss n only ordered))

@@ -1,16 +1,19 @@
 //! The walk that finds what a query selects.
-ghost use Rattle.std.specs.Prelude.{◌≡◌, ◌++◌, map, Some, IfOk, IfSome, OnOk};
+ghost use Rattle.std.specs.Prelude.{◌≡◌, ◌++◌, ◌∷◌, true, map, Some, IfOk, IfSome, OnOk, codes};
 ghost use Rattle.std.specs.List.Sorted.{IsStrictlySortedBy};
+ghost use Rattle.std.specs.Str.{bytes_eq};
 ghost use Rattle.iris_tree.specs.Universe.{nodes_of, children_of};
 ghost use Rattle.iris_tree.specs.Document.{a_node, place_of};
-ghost use Rattle.iris_xpath.specs.Meaning.{is_on_id, holds, fits, tested_with_a_look, selected, full_names};
+ghost use Rattle.iris_xpath.specs.Meaning.{selected};
+ghost use Rattle.iris_xpath.specs.ThinMeaning.{holds, fits, tested_with_a_look, full_names};
+ghost use Rattle.iris_xpath.specs.ThinQuery.{is_thin_step, is_thin, thin_step, thin_of};
 ghost use Rattle.iris_xpath.specs.PlaceOrder.{place_cmp};
 ghost use Rattle.iris_select.specs.Places.{edges_of};
 ghost use Rattle.iris_select.specs.Walk.{led_to, all_led_to, names_from, looked_at, all_looked_at, IsOnlyFor};
 
 use crate::place::Place;
 use iris_tree::{Id, Label, Mem, Name, Sequence, Tree};
-use iris_xpath::{Predicate, Query, Step};
+use iris_xpath::{Expression, Query, Step};
 use std::alloc::Global;
 
 /// What an evaluation found, and what it looked at.
@@ -33,43 +36,50 @@ struct Tested {
     looks: bool,
 }
 
-// Whether a predicate is on `@id`, which is told by the label and needs no look at the node.
-fn is_on_id(predicate: &Predicate) -> bool
-    ensures { result ≡ is_on_id predicate.now }
+// Whether it is the name of `@id`, which is told by the label and needs no look at the node.
+fn is_id(name: &str) -> bool
+    ensures { result ≡ bytes_eq name.now (codes "id") }
 {
-    predicate.name() == "id"
+    name == "id"
 }
 
-// Whether a predicate holds at a node: the attribute of that name has that text.
-fn holds(node: &Tree, predicate: &Predicate) -> bool
-    ensures { result ≡ holds (a_node node.now) predicate.now }
+// Whether the attribute of that name has that text at a node.
+fn holds(node: &Tree, name: &str, value: &str) -> bool
+    ensures { result ≡ holds (a_node node.now) (record { name = name.now; value = value.now }) }
 {
-    if is_on_id(predicate) {
-        return node.label().id.as_str() == predicate.value();
+    if is_id(name) {
+        return node.label().id.as_str() == value;
     }
-    match node.local().attrs.get(predicate.name()) {
-        Some(value) => value == predicate.value(),
+    match node.local().attrs.get(name) {
+        Some(found) => found == value,
         None => false,
     }
 }
 
 // Tests a node by its kind, and then by the predicates one after another, up to the first that is false.
-fn test(node: &Tree, step: &Step) -> Tested
-    ensures passes { result.passes ≡ fits (Some (a_node node.now)) step.now }
-    ensures looks { result.looks ≡ tested_with_a_look (Some (a_node node.now)) step.now }
+fn test(node: &Tree, step: &Step<Expression>) -> Tested
+    requires thin { is_thin_step step.now ≡ true }
+    ensures passes { result.passes ≡ fits (Some (a_node node.now)) (thin_step step.now) }
+    ensures looks { result.looks ≡ tested_with_a_look (Some (a_node node.now)) (thin_step step.now) }
 {
-    if node.label().kind != step.kind() {
+    let Some(kind) = step.kind() else {
+        unreachable!()
+    };
+    if node.label().kind != *kind {
         return Tested {
             passes: false,
             looks: false,
         };
     }
     let mut looks = false;
-    for predicate in step.predicates() {
-        if !is_on_id(predicate) {
+    for predicate in step.predicates.as_slice() {
+        let Some((name, value)) = predicate.as_equality() else {
+            unreachable!()
+        };
+        if !is_id(name) {
             looks = true;
         }
-        if !holds(node, predicate) {
+        if !holds(node, name, value) {
             return Tested {
                 passes: false,
                 looks,
@@ -84,18 +94,16 @@ fn test(node: &Tree, step: &Step) -> Tested
 
 // The label that a node is to have so that it passes the step or is looked at. There is one where the
 // first predicate is on `@id` and its text is an id.
-fn only_label(step: &Step) -> Option<Label>
-    ensures { IfSome result (λ label. IsOnlyFor label step.now) }
+fn only_label(step: &Step<Expression>) -> Option<Label>
+    ensures { IfSome result (λ label. IsOnlyFor label (thin_step step.now)) }
 {
-    let first = step.predicates().first()?;
-    if !is_on_id(first) {
+    let kind = step.kind()?;
+    let (name, value) = step.predicates.as_slice().first()?.as_equality()?;
+    if !is_id(name) {
         return None;
     }
-    match Id::new(first.value()) {
-        Ok(id) => Some(Label {
-            kind: step.kind(),
-            id,
-        }),
+    match Id::new(value) {
+        Ok(id) => Some(Label { kind: *kind, id }),
         Err(_) => None,
     }
 }
@@ -116,13 +124,14 @@ fn add_all(alloc: Global, node: &Tree, name: &Name, full: &mut Vec<Name>) -> Mem
 fn visit(
     alloc: Global,
     node: &Tree,
-    step: &Step,
-    rest: &[Step],
+    step: &Step<Expression>,
+    rest: &[Step<Expression>],
     above: &Name,
     found: &mut Evaluation,
 ) -> Mem<()>
-    ensures places { OnOk result (map edges_of found.new.places.items ≡ map edges_of found.old.places.items ++ map place_of (led_to above.now node.now step.now rest.now)) }
-    ensures full { OnOk result (found.new.full.items ≡ found.old.full.items ++ looked_at above.now node.now step.now rest.now) }
+    requires thin { is_thin (step.now ∷ rest.now) ≡ true }
+    ensures places { OnOk result (map edges_of found.new.places.items ≡ map edges_of found.old.places.items ++ map place_of (led_to above.now node.now (thin_step step.now) (thin_of rest.now))) }
+    ensures full { OnOk result (found.new.full.items ≡ found.old.full.items ++ looked_at above.now node.now (thin_step step.now) (thin_of rest.now)) }
 {
     let tested = test(node, step);
     if !tested.passes && !tested.looks {
@@ -152,13 +161,14 @@ fn visit(
 fn descend(
     alloc: Global,
     node: &Tree,
-    step: &Step,
-    rest: &[Step],
+    step: &Step<Expression>,
+    rest: &[Step<Expression>],
     name: &Name,
     found: &mut Evaluation,
 ) -> Mem<()>
-    ensures places { OnOk result (map edges_of found.new.places.items ≡ map edges_of found.old.places.items ++ map place_of (all_led_to name.now (nodes_of (children_of node.now)) step.now rest.now)) }
-    ensures full { OnOk result (found.new.full.items ≡ found.old.full.items ++ all_looked_at name.now (nodes_of (children_of node.now)) step.now rest.now) }
+    requires thin { is_thin (step.now ∷ rest.now) ≡ true }
+    ensures places { OnOk result (map edges_of found.new.places.items ≡ map edges_of found.old.places.items ++ map place_of (all_led_to name.now (nodes_of (children_of node.now)) (thin_step step.now) (thin_of rest.now))) }
+    ensures full { OnOk result (found.new.full.items ≡ found.old.full.items ++ all_looked_at name.now (nodes_of (children_of node.now)) (thin_step step.now) (thin_of rest.now)) }
 {
     let children = node.children();
     if let Some(label) = only_label(step) {

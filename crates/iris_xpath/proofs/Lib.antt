@@ -4,4 +4,5 @@ pub mod Predicates
 pub mod Reached
 pub mod Results
 pub mod Steps
+pub mod ThinQuery
 pub mod Words

@@ -1,6 +1,6 @@
 -- The places of a document in order rise strictly, and so do those that a query selects.
-use Rattle.std.proofs.Common.{◌≡◌, ℕ, ◌+◌, ◌<◌, List, [], ◌∷◌, ◌++◌, map, refl, ap, sym, ◌∙◌, subst, append-nil, append_assoc, arith}
-use Rattle.std.specs.List.{AllByRecursion}
+use Rattle.std.proofs.Common.{◌≡◌, ℕ, ◌+◌, ◌<◌, List, [], ◌∷◌, ◌++◌, ◌&&◌, map, refl, ap, sym, ◌∙◌, subst, append-nil, append_assoc, arith}
+use Rattle.std.specs.List.{AllByRecursion, list_any}
 use Rattle.std.specs.List.Sorted.{IsStrictlySortedBy}
 use Rattle.std.specs.Ordering.{nat_cmp, ordering_then, ordering_reverse}
 use Rattle.std.specs.declared.cmp.Ordering.{Ordering}
@@ -14,11 +14,10 @@ use Rattle.iris_tree.specs.declared.plain.Plain.{Plain}
 use Rattle.iris_tree.specs.declared.plain.Plain.TheViews.{out-Plain, out-roll-Plain}
 use Rattle.iris_tree.specs.declared.plain.Plain.TheFolds.{fold_out-Plain, ind-Plain}
 use Rattle.iris_tree.specs.Universe.{Node, node, Nodes, no_nodes, nodes, label_of, AllAfter, IsOrdered, AreOrdered}
-use Rattle.iris_tree.specs.Document.{Edge, position, label, Place, numbered, plain_places, plain_places_step, node_places, all_node_places, places, part_at_place}
-use Rattle.iris_xpath.specs.Syntax.{Syntax}
-use Rattle.iris_xpath.specs.Meaning.{selected}
+use Rattle.iris_tree.specs.Document.{Edge, position, label, Place, numbered, plain_places, plain_places_step, node_places, all_node_places, places}
+use Rattle.iris_xpath.specs.Syntax.{Syntax, MainStep, main_of}
+use Rattle.iris_xpath.specs.Meaning.{is_reached, fits, step_to, steps_to, selected}
 use Rattle.iris_xpath.specs.PlaceOrder.{edge_cmp, place_cmp}
-use Rattle.iris_xpath.proofs.Reached.{reached, selected_is}
 
 abbrev Rises : List Place → Type 0
 Rises ps = IsStrictlySortedBy place_cmp ps
@@ -190,8 +189,13 @@ node_edges n = rw (node_form n) (under_edges (label (label_of n)) (below n))
 places_rise : (document : Node) → IsOrdered document → Rises (places document)
 places_rise document h = rises_first (node_places document) (node_edges document) (rw (node_form document) (rises_under (label (label_of document)) (below document) (below_rises document h)))
 
--- what a query selects
+-- ---- what a query selects
+
+steps_rise : (document : Node) (context : List Place) (ss : List MainStep) → IsOrdered document → Rises context → Rises (steps_to document context ss)
+steps_rise document context [] h rise = rise
+steps_rise document context (s ∷ ss) h rise =
+    steps_rise document (step_to document context s) ss h
+    (IsStrictlySortedBy-filter place_cmp (λ place. list_any (λ above. is_reached s.separator above place) context && fits document s place) (places document) (places_rise document h))
+
 pub selected_rise : (document : Node) (q : Syntax) → IsOrdered document → IsStrictlySortedBy place_cmp (selected document q)
-selected_rise document q h =
-    subst (λ (ps : List Place). IsStrictlySortedBy place_cmp ps) (sym (selected_is document q))
-    (IsStrictlySortedBy-filter place_cmp (reached (part_at_place document) q) (places document) (places_rise document h))
+selected_rise document q h = steps_rise document ([] ∷ []) (map main_of q) h (rises_first [] tt nothing_rises)

@@ -8,8 +8,11 @@ use Rattle.iris_base.proofs.Labels.{label_eq-Decides}
 use Rattle.iris_tree.specs.declared.plain.Plain.{Plain}
 use Rattle.iris_tree.specs.Universe.{Node, node, Nodes, no_nodes, nodes, list_of, label_of, child_of}
 use Rattle.iris_tree.specs.Document.{Edge, position, label, Place, place_of, Part, below_plain, below_node, part_at_place, numbered, plain_places, node_places, all_node_places, places, names_of}
-use Rattle.iris_xpath.specs.Syntax.{Main, Syntax}
-use Rattle.iris_xpath.specs.Meaning.{edge_eq, is_parent, is_above, fits, step_to, steps_to, selected, tested_with_a_look, is_looked_into, full_names}
+use Rattle.iris_xpath.specs.Syntax.{Syntax}
+use Rattle.iris_xpath.specs.Thin.{Main}
+use Rattle.iris_xpath.specs.ThinQuery.{thin_of}
+use Rattle.iris_xpath.specs.Places.{edge_eq, is_parent, is_above}
+use Rattle.iris_xpath.specs.ThinMeaning.{fits, step_to, steps_to, selected, tested_with_a_look, is_looked_into, full_names}
 
 -- ---- Bool
 
@@ -52,7 +55,7 @@ abbrev pub Parts : Type 0
 Parts = Place → Option Part
 
 -- each edge on the way fits its step, and what is left of the place passes the test
-abbrev pub leads : (Parts → Place → Bool) → Parts → Syntax → Place → Bool
+abbrev pub leads : (Parts → Place → Bool) → Parts → List Main → Place → Bool
 leads test at [] place = test at place
 leads test at (s ∷ ss) [] = false
 leads test at (s ∷ ss) (e ∷ place) = fits (at (e ∷ [])) s && leads test (λ p. at (e ∷ p)) ss place
@@ -70,26 +73,26 @@ abbrev pub always : Place → Bool
 always place = true
 
 -- the steps lead just to the place
-abbrev pub reached : Parts → Syntax → Place → Bool
+abbrev pub reached : Parts → List Main → Place → Bool
 reached at q place = leads (λ a p. is_end p) at q place
 
-leads_same : (t u : Parts → Place → Bool) → ((a : Parts) (p : Place) → t a p ≡ u a p) → (at : Parts) (q : Syntax) (place : Place) → leads t at q place ≡ leads u at q place
+leads_same : (t u : Parts → Place → Bool) → ((a : Parts) (p : Place) → t a p ≡ u a p) → (at : Parts) (q : List Main) (place : Place) → leads t at q place ≡ leads u at q place
 leads_same t u h at [] place = h at place
 leads_same t u h at (s ∷ ss) [] = refl
 leads_same t u h at (s ∷ ss) (e ∷ place) = ap (λ b. fits (at (e ∷ [])) s && b) (leads_same t u h (λ p. at (e ∷ p)) ss place)
 
-leads_append : (t : Parts → Place → Bool) (at : Parts) (q r : Syntax) (place : Place) → leads t at (q ++ r) place ≡ leads (λ a p. leads t a r p) at q place
+leads_append : (t : Parts → Place → Bool) (at : Parts) (q r : List Main) (place : Place) → leads t at (q ++ r) place ≡ leads (λ a p. leads t a r p) at q place
 leads_append t at [] r place = refl
 leads_append t at (s ∷ ss) r [] = refl
 leads_append t at (s ∷ ss) r (e ∷ place) = ap (λ b. fits (at (e ∷ [])) s && b) (leads_append t (λ p. at (e ∷ p)) ss r place)
 
-leads_and : (t : Parts → Place → Bool) (f : Option Part → Bool) (at : Parts) (q : Syntax) (place : Place) → (leads t at q place && f (at place)) ≡ leads (λ a p. t a p && f (a p)) at q place
+leads_and : (t : Parts → Place → Bool) (f : Option Part → Bool) (at : Parts) (q : List Main) (place : Place) → (leads t at q place && f (at place)) ≡ leads (λ a p. t a p && f (a p)) at q place
 leads_and t f at [] place = refl
 leads_and t f at (s ∷ ss) [] = refl
 leads_and t f at (s ∷ ss) (e ∷ place) =
     and_assoc (fits (at (e ∷ [])) s) (leads t (λ p. at (e ∷ p)) ss place) (f (at (e ∷ place))) ∙ ap (λ b. fits (at (e ∷ [])) s && b) (leads_and t f (λ p. at (e ∷ p)) ss place)
 
-leads_or : (t u : Parts → Place → Bool) (at : Parts) (q : Syntax) (place : Place) → (leads t at q place || leads u at q place) ≡ leads (λ a p. t a p || u a p) at q place
+leads_or : (t u : Parts → Place → Bool) (at : Parts) (q : List Main) (place : Place) → (leads t at q place || leads u at q place) ≡ leads (λ a p. t a p || u a p) at q place
 leads_or t u at [] place = refl
 leads_or t u at (s ∷ ss) [] = refl
 leads_or t u at (s ∷ ss) (e ∷ place) =
@@ -126,7 +129,7 @@ above_begins (e ∷ front) [] = refl
 above_begins (e ∷ front) (f ∷ place) = ap (λ b. edge_eq e f && b) (above_begins front place)
 
 -- from a place at the front to which steps lead
-led : (test : Place → Bool) (at : Parts) (q : Syntax) (front place : Place) → begins test front place ≡ true → reached at q front ≡ true → leads (λ a p. test p) at q place ≡ true
+led : (test : Place → Bool) (at : Parts) (q : List Main) (front place : Place) → begins test front place ≡ true → reached at q front ≡ true → leads (λ a p. test p) at q place ≡ true
 led test at [] [] place h k = h
 led test at [] (e ∷ front) place h k = absurd (cc)
 led test at (s ∷ ss) [] place h k = absurd (cc)
@@ -138,12 +141,12 @@ led test at (s ∷ ss) (e ∷ front) (f ∷ place) h k =
     (and_both (fits (at (e ∷ [])) s) _ r.0 (led test (λ p. at (e ∷ p)) ss front place p.1 r.1))
 
 -- as many edges as there are steps
-abbrev front_of : Syntax → Place → Place
+abbrev front_of : List Main → Place → Place
 front_of [] place = []
 front_of (s ∷ ss) [] = []
 front_of (s ∷ ss) (e ∷ place) = e ∷ front_of ss place
 
-front_led : (test : Place → Bool) (at : Parts) (q : Syntax) (place : Place) → leads (λ a p. test p) at q place ≡ true → (begins test (front_of q place) place ≡ true) × (reached at q (front_of q place) ≡ true)
+front_led : (test : Place → Bool) (at : Parts) (q : List Main) (place : Place) → leads (λ a p. test p) at q place ≡ true → (begins test (front_of q place) place ≡ true) × (reached at q (front_of q place) ≡ true)
 front_led test at [] place h = (h, refl)
 front_led test at (s ∷ ss) [] h = absurd (cc)
 front_led test at (s ∷ ss) (e ∷ place) h =
@@ -179,7 +182,7 @@ not_both true b h k = cc
 not_both false b h k = cc
 
 -- among siblings, of which the first has the label or has it not
-first_among : (n : Node) (ns : Nodes) (m : Label) (s : Main) (ss : Syntax) (x : Place) (b : Bool) → label_eq (label_of n) m ≡ b → (reached (below_node n) ss x ≡ true → IsAmong (label (label_of n) ∷ x) (node_places n))
+first_among : (n : Node) (ns : Nodes) (m : Label) (s : Main) (ss : List Main) (x : Place) (b : Bool) → label_eq (label_of n) m ≡ b → (reached (below_node n) ss x ≡ true → IsAmong (label (label_of n) ∷ x) (node_places n))
     → (fits (option_and_then (λ c. below_node c []) (child_of m (list_of ns))) s ≡ true → reached (λ p. option_and_then (λ c. below_node c p) (child_of m (list_of ns))) ss x ≡ true → IsAmong (label m ∷ x) (all_node_places ns))
     → fits (option_and_then (λ c. below_node c []) (cond b (Some n) (child_of m (list_of ns)))) s ≡ true → reached (λ p. option_and_then (λ c. below_node c p) (cond b (Some n) (child_of m (list_of ns)))) ss x ≡ true
     → IsAmong (label m ∷ x) (node_places n ++ all_node_places ns)
@@ -188,7 +191,7 @@ first_among n ns m s ss x true e here later f r =
 first_among n ns m s ss x false e here later f r = among_right (label m ∷ x) (node_places n) (all_node_places ns) (later f r)
 
 mutual
-  node_among : (n : Node) (q : Syntax) (x : Place) → reached (below_node n) q x ≡ true → IsAmong (label (label_of n) ∷ x) (node_places n)
+  node_among : (n : Node) (q : List Main) (x : Place) → reached (below_node n) q x ≡ true → IsAmong (label (label_of n) ∷ x) (node_places n)
   node_among (node l local below) [] [] h = inl refl
   node_among (node l local below) [] (e ∷ x) h = absurd (cc)
   node_among (node l local below) (s ∷ ss) [] h = absurd (cc)
@@ -197,19 +200,19 @@ mutual
       let p = and_true (fits (option_and_then (λ c. below_node c []) (child_of m (list_of below))) s) _ h in
       inr (among_map (label l) (label m ∷ x) _ (among_right (label m ∷ x) (numbered 0 (map plain_places local.plain)) (all_node_places below) (child_among below m s ss x p.0 p.1)))
 
-  child_among : (ns : Nodes) (m : Label) (s : Main) (ss : Syntax) (x : Place) → fits (option_and_then (λ c. below_node c []) (child_of m (list_of ns))) s ≡ true → reached (λ p. option_and_then (λ c. below_node c p) (child_of m (list_of ns))) ss x ≡ true
+  child_among : (ns : Nodes) (m : Label) (s : Main) (ss : List Main) (x : Place) → fits (option_and_then (λ c. below_node c []) (child_of m (list_of ns))) s ≡ true → reached (λ p. option_and_then (λ c. below_node c p) (child_of m (list_of ns))) ss x ≡ true
       → IsAmong (label m ∷ x) (all_node_places ns)
   child_among no_nodes m s ss x f r = absurd (cc)
   child_among (nodes n ns) m s ss x f r = first_among n ns m s ss x (label_eq (label_of n) m) refl (λ h. node_among n ss x h) (λ g h. child_among ns m s ss x g h) f r
 
-top_among : (document : Node) (m : Label) (b : Bool) → label_eq (label_of document) m ≡ b → (s : Main) (ss : Syntax) (x : Place) → (fits (if b then below_node document [] else None) s && reached (λ p. if b then below_node document p else None) ss x) ≡ true
+top_among : (document : Node) (m : Label) (b : Bool) → label_eq (label_of document) m ≡ b → (s : Main) (ss : List Main) (x : Place) → (fits (if b then below_node document [] else None) s && reached (λ p. if b then below_node document p else None) ss x) ≡ true
     → IsAmong (label m ∷ x) (places document)
 top_among document m true e s ss x h =
     let p = and_true (fits (below_node document []) s) (reached (below_node document) ss x) h in
     inr (subst (λ (l : Label). IsAmong (label l ∷ x) (node_places document)) ((label_eq-Decides (label_of document) m).0 e) (node_among document ss x p.1))
 top_among document m false e s ss x h = absurd (cc)
 
-place_among : (document : Node) (q : Syntax) (x : Place) → reached (part_at_place document) q x ≡ true → IsAmong x (places document)
+place_among : (document : Node) (q : List Main) (x : Place) → reached (part_at_place document) q x ≡ true → IsAmong x (places document)
 place_among document [] [] h = inl refl
 place_among document [] (e ∷ x) h = absurd (cc)
 place_among document (s ∷ ss) [] h = absurd (cc)
@@ -246,10 +249,10 @@ kept_some t keeps (y ∷ ys) d h l = kept_some_step (keeps y) (t y) t keeps y (f
 -- ---- contexts
 
 -- the places to which steps lead from the document
-abbrev pub context_of : Node → Syntax → List Place
+abbrev pub context_of : Node → List Main → List Place
 context_of document q = filter (reached (part_at_place document) q) (places document)
 
-context_begins : (test : Place → Bool) (document : Node) (q : Syntax) (place : Place) → list_any (λ front. begins test front place) (context_of document q) ≡ leads (λ a p. test p) (part_at_place document) q place
+context_begins : (test : Place → Bool) (document : Node) (q : List Main) (place : Place) → list_any (λ front. begins test front place) (context_of document q) ≡ leads (λ a p. test p) (part_at_place document) q place
 context_begins test document q place =
     let at = part_at_place document in
     same_bool _ _
@@ -262,11 +265,11 @@ any_same : (t u : Place → Bool) → ((x : Place) → t x ≡ u x) → (xs : Li
 any_same t u h [] = refl
 any_same t u h (x ∷ xs) = rw (h x, any_same t u h xs) refl
 
-any_parent : (document : Node) (q : Syntax) (place : Place) → list_any (λ above. is_parent above place) (context_of document q) ≡ leads (λ a p. is_edge p) (part_at_place document) q place
+any_parent : (document : Node) (q : List Main) (place : Place) → list_any (λ above. is_parent above place) (context_of document q) ≡ leads (λ a p. is_edge p) (part_at_place document) q place
 any_parent document q place =
     any_same (λ above. is_parent above place) (λ front. begins is_edge front place) (λ x. parent_begins x place) (context_of document q) ∙ context_begins is_edge document q place
 
-any_above : (document : Node) (q : Syntax) (place : Place) → list_any (λ above. is_above above place) (context_of document q) ≡ leads (λ a p. always p) (part_at_place document) q place
+any_above : (document : Node) (q : List Main) (place : Place) → list_any (λ above. is_above above place) (context_of document q) ≡ leads (λ a p. always p) (part_at_place document) q place
 any_above document q place =
     any_same (λ above. is_above above place) (λ front. begins always front place) (λ x. above_begins x place) (context_of document q) ∙ context_begins always document q place
 
@@ -280,16 +283,16 @@ edge_fits s at [] = refl
 edge_fits s at (e ∷ []) = sym (and_right (fits (at (e ∷ [])) s))
 edge_fits s at (e ∷ f ∷ place) = sym (and_false (fits (at (e ∷ [])) s))
 
-one_step : (document : Node) (q : Syntax) (s : Main) (place : Place) → (list_any (λ above. is_parent above place) (context_of document q) && fits (part_at_place document place) s) ≡ reached (part_at_place document) (q ++ s ∷ []) place
+one_step : (document : Node) (q : List Main) (s : Main) (place : Place) → (list_any (λ above. is_parent above place) (context_of document q) && fits (part_at_place document place) s) ≡ reached (part_at_place document) (q ++ s ∷ []) place
 one_step document q s place =
     let at = part_at_place document in
     ap (λ b. b && fits (at place) s) (any_parent document q place) ∙ leads_and (λ a p. is_edge p) (λ o. fits o s) at q place
     ∙ leads_same (λ a p. is_edge p && fits (a p) s) (λ a p. reached a (s ∷ []) p) (edge_fits s) at q place ∙ sym (leads_append (λ a p. is_end p) at q (s ∷ []) place)
 
-context_step : (document : Node) (q : Syntax) (s : Main) → step_to document (context_of document q) s ≡ context_of document (q ++ s ∷ [])
+context_step : (document : Node) (q : List Main) (s : Main) → step_to document (context_of document q) s ≡ context_of document (q ++ s ∷ [])
 context_step document q s = filter_same _ _ (one_step document q s) (places document)
 
-context_steps : (document : Node) (q ss : Syntax) → steps_to document (context_of document q) ss ≡ context_of document (q ++ ss)
+context_steps : (document : Node) (q ss : List Main) → steps_to document (context_of document q) ss ≡ context_of document (q ++ ss)
 context_steps document q [] = ap (context_of document) (sym (append-nil q))
 context_steps document q (s ∷ ss) =
     ap (λ (c : List Place). steps_to document c ss) (context_step document q s) ∙ context_steps document (q ++ s ∷ []) ss ∙ ap (context_of document) (append_assoc q (s ∷ []) ss)
@@ -302,17 +305,17 @@ context_start : (document : Node) → [] ∷ [] ≡ context_of document []
 context_start (node l local below) = ap (λ (ps : List Place). [] ∷ ps) (sym (no_end_below (label l) (numbered 0 (map plain_places local.plain) ++ all_node_places below)))
 
 -- a query selects the places to which its steps lead
-pub selected_is : (document : Node) (q : Syntax) → selected document q ≡ context_of document q
+pub selected_is : (document : Node) (q : List Main) → selected document q ≡ context_of document q
 selected_is document q = ap (λ (c : List Place). steps_to document c q) (context_start document) ∙ context_steps document [] q
 
 -- ---- what is looked into
 
 -- below some steps, whether a place is looked into
-abbrev pub looked : Syntax → Parts → Place → Bool
+abbrev pub looked : List Main → Parts → Place → Bool
 looked [] at place = true
 looked (s ∷ ss) at place = (is_edge place && tested_with_a_look (at place) s) || leads (looked ss) at (s ∷ []) place
 
-looked_into : (document : Node) (q ss : Syntax) (place : Place) → is_looked_into document (context_of document q) ss place ≡ leads (looked ss) (part_at_place document) q place
+looked_into : (document : Node) (q ss : List Main) (place : Place) → is_looked_into document (context_of document q) ss place ≡ leads (looked ss) (part_at_place document) q place
 looked_into document q [] place = any_above document q place ∙ leads_same (λ a p. always p) (looked []) (λ a p. refl) (part_at_place document) q place
 looked_into document q (s ∷ ss) place =
     let at = part_at_place document in
@@ -323,6 +326,6 @@ looked_into document q (s ∷ ss) place =
     rw (here, later) (leads_or (λ a p. is_edge p && tested_with_a_look (a p) s) (λ a p. leads (looked ss) a (s ∷ []) p) at q place)
 
 -- an evaluation looks into the nodes whose places its steps look into
-pub full_names_are : (document : Node) (q : Syntax) → full_names document q ≡ filter (λ name. looked q (part_at_place document) (place_of name)) (names_of document)
+pub full_names_are : (document : Node) (q : Syntax) → full_names document q ≡ filter (λ name. looked (thin_of q) (part_at_place document) (place_of name)) (names_of document)
 full_names_are document q =
-    filter_same _ _ (λ name. ap (λ (c : List Place). is_looked_into document c q (place_of name)) (context_start document) ∙ looked_into document [] q (place_of name)) (names_of document)
+    filter_same _ _ (λ name. ap (λ (c : List Place). is_looked_into document c (thin_of q) (place_of name)) (context_start document) ∙ looked_into document [] (thin_of q) (place_of name)) (names_of document)

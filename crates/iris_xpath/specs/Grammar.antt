@@ -1,7 +1,13 @@
 -- The thin query language, as a relation between whole texts and queries, and its limits.
 use Rattle.std.specs.Prelude.{◌≡◌, ◌≢◌, ℕ, ◌*◌, ◌<◌, ◌≤◌, Bool, true, ◌&&◌, ◌||◌, ◌==◌, length, slice_index, nat_le, List, [], ◌∷◌, ◌++◌, codes, Contains}
 use Rattle.std.specs.List.{AllByRecursion, sum_by}
-use Rattle.iris_xpath.specs.Syntax.{Equals, Main, Syntax}
+use Rattle.iris_xpath.specs.declared.expression.Separator.TheVariants.{Slash}
+use Rattle.iris_xpath.specs.declared.expression.NameTest.TheVariants.{Kind}
+use Rattle.iris_xpath.specs.declared.expression.Step.{Step}
+use Rattle.iris_xpath.specs.declared.expression.Expression.{Expression}
+use Rattle.iris_xpath.specs.Syntax.{Syntax}
+use Rattle.iris_xpath.specs.Thin.{Equals}
+use Rattle.iris_xpath.specs.ThinQuery.{equality}
 
 -- whether a byte is an ASCII letter
 abbrev pub is_letter : ℕ → Bool
@@ -24,11 +30,13 @@ IsWord (b ∷ bs) = (is_letter b ≡ true) × AllByRecursion IsWordByte bs
 abbrev pub HasNoQuote : List ℕ → Type 0
 HasNoQuote bs = (i : ℕ) → i < length bs → slice_index bs i ≢ 39
 
--- the text of a predicate is `[@`, its name, `='`, its value and `']`
-pub record ReadsPredicate (text : List ℕ) (p : Equals) : Type 0 where
-  pub spelled : text ≡ codes "[@" ++ p.name ++ codes "='" ++ p.value ++ codes "']"
-  pub name : IsWord p.name
-  pub value : HasNoQuote p.value
+-- a predicate says that an attribute has a value; its text is `[@`, the attribute's name, `='`, the value and `']`
+pub record ReadsPredicate (text : List ℕ) (e : Expression) : Type 0 where
+  pub says : Equals
+  pub is : e ≡ equality says
+  pub spelled : text ≡ codes "[@" ++ says.name ++ codes "='" ++ says.value ++ codes "']"
+  pub name : IsWord says.name
+  pub value : HasNoQuote says.value
 
 -- the text is one piece after another, each of which reads as one of the values
 abbrev pub ReadsAll : {X : Type 0} → (List ℕ → X → Type 0) → List ℕ → List X → Type 0
@@ -36,12 +44,15 @@ ReadsAll ReadsOne text [] = text ≡ []
 ReadsAll ReadsOne text (x ∷ xs) =
     (front : List ℕ) × (back : List ℕ) × (text ≡ front ++ back) × ReadsOne front x × ReadsAll ReadsOne back xs
 
--- the text of a step is `/`, one of the kinds, which is a word, and its predicates
-pub record ReadsMain (kinds : List (List ℕ)) (text : List ℕ) (s : Main) : Type 0 where
+-- a step goes to the nodes of a kind right below; its text is `/`, one of the kinds, which is a word, and its predicates
+pub record ReadsMain (kinds : List (List ℕ)) (text : List ℕ) (s : Step Expression) : Type 0 where
+  pub kind : List ℕ
   pub rest : List ℕ
-  pub spelled : text ≡ 47 ∷ s.kind ++ rest
-  pub word : IsWord s.kind
-  pub kind : Contains kinds s.kind
+  pub separator : s.separator ≡ Slash
+  pub test : s.test ≡ Kind kind
+  pub spelled : text ≡ 47 ∷ kind ++ rest
+  pub word : IsWord kind
+  pub known : Contains kinds kind
   pub predicates : ReadsAll ReadsPredicate rest s.predicates
 
 -- the text of a query is that of its steps, of which there is at least one

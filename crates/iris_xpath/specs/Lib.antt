@@ -1,7 +1,11 @@
 pub mod Follows
 pub mod Gives
 pub mod Grammar
+pub mod Meaning
 pub mod Message
 pub mod PlaceOrder
+pub mod Places
 pub mod Syntax
-pub mod Meaning
+pub mod Thin
+pub mod ThinMeaning
+pub mod ThinQuery

@@ -2,14 +2,18 @@
 ghost use Rattle.std.specs.Prelude.{◌≡◌, ◌≢◌, ℕ, ◌≤◌, ◌++◌, ◌∷◌, List, IfOk, IfSome, IfNone, MatchOption, IsTrue, ◌↔◌, ◌==◌, Contains, take, drop, slice_index};
 ghost use Rattle.std.specs.List.{AllByRecursion};
 ghost use Rattle.std.specs.Str.{IsCharBoundary};
-ghost use Rattle.iris_xpath.specs.Syntax.{Equals, Main, Syntax};
+ghost use Rattle.iris_xpath.specs.Syntax.{Syntax};
+ghost use Rattle.iris_xpath.specs.ThinQuery.{equality};
 ghost use Rattle.iris_xpath.specs.Grammar.{is_letter, is_word_byte, IsWordByte, IsWord, HasNoQuote, ReadsPredicate, ReadsAll, ReadsMain, Reads, operands_of, Within};
 ghost use Rattle.iris_xpath.specs.Follows.{EndsWord, EndsPredicates, EndsStep};
 ghost use Rattle.iris_xpath.specs.Gives.{Gives, GivesFront};
 
 use crate::error::QueryError;
-use crate::query::{Predicate, Query, Step};
-use iris_base::{Kind, Sequence};
+use crate::expression::{
+    Attribute, Comparison, Expression, NameTest, Operand, Path, Separator, Step,
+};
+use crate::query::Query;
+use iris_base::{Kind, Mem, Sequence, Text};
 use std::alloc::Global;
 
 /// The greatest length of a query's text, in bytes.
@@ -43,12 +47,12 @@ pub fn parse(alloc: Global, text: &str, kinds: &[Kind]) -> Result<Query, QueryEr
 }
 
 /// Whether the predicates of all the steps have no more than `MAX_OPERANDS` operands.
-fn has_few_operands(steps: &[Step]) -> bool
+fn has_few_operands(steps: &[Step<Expression>]) -> bool
     ensures { IsTrue result ↔ (operands_of steps.now ≤ 64) }
 {
     let mut room = MAX_OPERANDS / 2;
     for step in steps {
-        match room.checked_sub(step.predicates().len()) {
+        match room.checked_sub(step.predicates.len()) {
             Some(left) => room = left,
             None => return false,
         }
@@ -57,7 +61,11 @@ fn has_few_operands(steps: &[Step]) -> bool
 }
 
 /// The steps that the whole text is.
-fn read_steps(alloc: Global, kinds: &[Kind], text: &str) -> Result<Sequence<Step>, QueryError>
+fn read_steps(
+    alloc: Global,
+    kinds: &[Kind],
+    text: &str,
+) -> Result<Sequence<Step<Expression>>, QueryError>
     ensures found { IfOk result (λ steps. ReadsAll (ReadsMain kinds.now) text.now steps) }
     ensures only { (q : Syntax) → ReadsAll (ReadsMain kinds.now) text.now q → Gives result q }
 {
@@ -76,9 +84,9 @@ fn read_step<'a>(
     alloc: Global,
     kinds: &[Kind],
     text: &'a str,
-) -> Result<(Step, &'a str), QueryError>
+) -> Result<(Step<Expression>, &'a str), QueryError>
     ensures found { IfOk result (λ r. (front : List ℕ) × (text.now ≡ front ++ r.1.now) × ReadsMain kinds.now front r.0) }
-    ensures only { (front z : List ℕ) (s : Main) → ReadsMain kinds.now front s → EndsStep z → text.now ≡ front ++ z → GivesFront result s z }
+    ensures only { (front z : List ℕ) (s : Step Expression) → ReadsMain kinds.now front s → EndsStep z → text.now ≡ front ++ z → GivesFront result s z }
 {
     let Some(rest) = strip_front(text, "/") else {
         return Err(QueryError::Later);
@@ -90,7 +98,12 @@ fn read_step<'a>(
         return Err(QueryError::Later);
     };
     let (predicates, rest) = read_predicates(alloc, rest)?;
-    Ok((Step::new(kind, predicates), rest))
+    let step = Step {
+        separator: Separator::Slash,
+        test: NameTest::Kind(kind),
+        predicates,
+    };
+    Ok((step, rest))
 }
 
 /// The kind of that name.
@@ -106,9 +119,9 @@ fn find_kind(kinds: &[Kind], name: &str) -> Option<Kind>
 }
 
 /// The predicates at the front, and what follows them.
-fn read_predicates(alloc: Global, text: &str) -> Result<(Sequence<Predicate>, &str), QueryError>
+fn read_predicates(alloc: Global, text: &str) -> Result<(Sequence<Expression>, &str), QueryError>
     ensures found { IfOk result (λ r. (front : List ℕ) × (text.now ≡ front ++ r.1.now) × ReadsAll ReadsPredicate front r.0) }
-    ensures only { (front z : List ℕ) (ps : List Equals) → ReadsAll ReadsPredicate front ps → EndsPredicates z → text.now ≡ front ++ z → GivesFront result ps z }
+    ensures only { (front z : List ℕ) (ps : List Expression) → ReadsAll ReadsPredicate front ps → EndsPredicates z → text.now ≡ front ++ z → GivesFront result ps z }
 {
     let mut predicates = Sequence::new(alloc);
     let mut rest = text;
@@ -128,9 +141,9 @@ fn begins_predicate(text: &str) -> bool
 }
 
 /// The predicate at the front, and what follows it.
-fn read_predicate(alloc: Global, text: &str) -> Result<(Predicate, &str), QueryError>
+fn read_predicate(alloc: Global, text: &str) -> Result<(Expression, &str), QueryError>
     ensures found { IfOk result (λ r. (front : List ℕ) × (text.now ≡ front ++ r.1.now) × ReadsPredicate front r.0) }
-    ensures only { (front z : List ℕ) (p : Equals) → ReadsPredicate front p → text.now ≡ front ++ z → GivesFront result p z }
+    ensures only { (front z : List ℕ) (p : Expression) → ReadsPredicate front p → text.now ≡ front ++ z → GivesFront result p z }
 {
     let Some(rest) = strip_front(text, "[@") else {
         return Err(QueryError::Later);
@@ -147,7 +160,25 @@ fn read_predicate(alloc: Global, text: &str) -> Result<(Predicate, &str), QueryE
     let Some(rest) = strip_front(rest, "]") else {
         return Err(QueryError::Later);
     };
-    Ok((Predicate::new(alloc, name, value)?, rest))
+    Ok((equality(alloc, name, value)?, rest))
+}
+
+/// The expression `@name='value'`, with texts of its own.
+fn equality(alloc: Global, name: &str, value: &str) -> Mem<Expression>
+    ensures { IfOk result (λ made. made ≡ equality (record { name = name.now; value = value.now })) }
+{
+    let attribute = Attribute {
+        separator: Separator::Slash,
+        name: Text::from_string(String::from_str(alloc, name)?),
+    };
+    Ok(Expression::Compare {
+        left: Operand::Path(Path {
+            parts: Sequence::new(alloc),
+            attribute: Some(attribute),
+        }),
+        comparison: Comparison::Equal,
+        right: Operand::Literal(Text::from_string(String::from_str(alloc, value)?)),
+    })
 }
 
 /// What follows `front`, where the text begins with it.

@@ -3,6 +3,7 @@ use Rattle.std.proofs.lemmas.Result.{on_ok_weaker}
 use Rattle.iris_base.specs.declared.name.Label.{Label}
 use Rattle.iris_tree.specs.Universe.{nodes_of}
 use Rattle.iris_tree.specs.Document.{place_of}
+use Rattle.iris_xpath.specs.ThinQuery.{thin_step, thin_of}
 use Rattle.iris_select.specs.declared.walk.Evaluation.{Evaluation}
 use Rattle.iris_select.specs.Places.{edges_of}
 use Rattle.iris_select.specs.Walk.{all_led_to, all_looked_at}
@@ -12,35 +13,35 @@ use Rattle.iris_select.proofs.walk.+walking.Goals.{visit-then-tested+in_ok-copy-
 
 pub descend-returns-in-Some-child-clause-places : goal.descend-returns-in-Some-child-clause-places
 descend-returns-in-Some-child-clause-places t c =
-    on_ok_weaker c.visit.result (λ h. led_at_child c.args.name.now c.in-Some.label c.args.step.now c.args.rest.now c.args.node.now (Some c.in-Some-child.child.now) c.in-Some.ensures c.children-children.ensures.ordered c.in-Some-child.ensures _ _ h)
+    on_ok_weaker c.visit.result (λ h. led_at_child c.args.name.now c.in-Some.label (thin_step c.args.step.now) (thin_of c.args.rest.now) c.args.node.now (Some c.in-Some-child.child.now) c.in-Some.ensures c.children-children.ensures.ordered c.in-Some-child.ensures _ _ h)
     c.visit.ensures.places
 
 pub descend-returns-in-Some-child-clause-full : goal.descend-returns-in-Some-child-clause-full
 descend-returns-in-Some-child-clause-full t c =
-    on_ok_weaker c.visit.result (λ h. looked_at_child c.args.name.now c.in-Some.label c.args.step.now c.args.rest.now c.args.node.now (Some c.in-Some-child.child.now) c.in-Some.ensures c.children-children.ensures.ordered c.in-Some-child.ensures _ _ h)
+    on_ok_weaker c.visit.result (λ h. looked_at_child c.args.name.now c.in-Some.label (thin_step c.args.step.now) (thin_of c.args.rest.now) c.args.node.now (Some c.in-Some-child.child.now) c.in-Some.ensures c.children-children.ensures.ordered c.in-Some-child.ensures _ _ h)
     c.visit.ensures.full
 
 pub descend-returns-in-None-clause-places : goal.descend-returns-in-None-clause-places
 descend-returns-in-None-clause-places t c =
-    led_at_child c.args.name.now c.in-Some.label c.args.step.now c.args.rest.now c.args.node.now None c.in-Some.ensures c.children-children.ensures.ordered c.in-None.ensures _ _ (sym (append-nil _))
+    led_at_child c.args.name.now c.in-Some.label (thin_step c.args.step.now) (thin_of c.args.rest.now) c.args.node.now None c.in-Some.ensures c.children-children.ensures.ordered c.in-None.ensures _ _ (sym (append-nil _))
 
 pub descend-returns-in-None-clause-full : goal.descend-returns-in-None-clause-full
 descend-returns-in-None-clause-full t c =
-    looked_at_child c.args.name.now c.in-Some.label c.args.step.now c.args.rest.now c.args.node.now None c.in-Some.ensures c.children-children.ensures.ordered c.in-None.ensures _ _ (sym (append-nil _))
+    looked_at_child c.args.name.now c.in-Some.label (thin_step c.args.step.now) (thin_of c.args.rest.now) c.args.node.now None c.in-Some.ensures c.children-children.ensures.ordered c.in-None.ensures _ _ (sym (append-nil _))
 
 pub descend-loop-child-preserved : goal.descend-loop-child-preserved
 descend-loop-child-preserved t c = record {
-  places = led_more _ _ _ c.args.name.now c.args.step.now c.args.rest.now c.children-children.result.now c.loop-child.child-index c.child-item.result c.loop-child-test.true c.child-item.is c.loop-child.invariant.places c.in_ok-visit.ensures.places;
-  full = looked_more _ _ _ c.args.name.now c.args.step.now c.args.rest.now c.children-children.result.now c.loop-child.child-index c.child-item.result c.loop-child-test.true c.child-item.is c.loop-child.invariant.full c.in_ok-visit.ensures.full;
+  places = led_more _ _ _ c.args.name.now (thin_step c.args.step.now) (thin_of c.args.rest.now) c.children-children.result.now c.loop-child.child-index c.child-item.result c.loop-child-test.true c.child-item.is c.loop-child.invariant.places c.in_ok-visit.ensures.places;
+  full = looked_more _ _ _ c.args.name.now (thin_step c.args.step.now) (thin_of c.args.rest.now) c.children-children.result.now c.loop-child.child-index c.child-item.result c.loop-child-test.true c.child-item.is c.loop-child.invariant.full c.in_ok-visit.ensures.full;
 }
 
 pub descend-returns-clause-places : goal.descend-returns-clause-places
 descend-returns-clause-places t c =
-    none_left (λ ns. map place_of (all_led_to c.args.name.now (nodes_of ns) c.args.step.now c.args.rest.now)) refl _ _ c.children-children.result.now c.loop-child.child-index c.loop-child-test.false c.loop-child.invariant.places
+    none_left (λ ns. map place_of (all_led_to c.args.name.now (nodes_of ns) (thin_step c.args.step.now) (thin_of c.args.rest.now))) refl _ _ c.children-children.result.now c.loop-child.child-index c.loop-child-test.false c.loop-child.invariant.places
 
 pub descend-returns-clause-full : goal.descend-returns-clause-full
 descend-returns-clause-full t c =
-    none_left (λ ns. all_looked_at c.args.name.now (nodes_of ns) c.args.step.now c.args.rest.now) refl _ _ c.children-children.result.now c.loop-child.child-index c.loop-child-test.false c.loop-child.invariant.full
+    none_left (λ ns. all_looked_at c.args.name.now (nodes_of ns) (thin_step c.args.step.now) (thin_of c.args.rest.now)) refl _ _ c.children-children.result.now c.loop-child.child-index c.loop-child-test.false c.loop-child.invariant.full
 
 pub visit-returns-clause-places : goal.visit-returns-clause-places
 visit-returns-clause-places t c =
@@ -49,7 +50,7 @@ visit-returns-clause-places t c =
       | visit-then-tested+in_ok-copy-2+in_ok-push-3 w ↦ ap (λ (e : Evaluation). map edges_of e.places.items) w.found-is
       | visit-else-tested w ↦ ap (λ (e : Evaluation). map edges_of e.places.items) w.found-is
     ] in
-    on_ok_weaker c.descend.result (led_through _ c.args.above.now _ c.args.node.now c.args.step.now c.in-Some.next.now c.args.rest.now c.in-Some.further.now _ _ _ _ unchanged c.in_ok-name.ensures c.label.ensures c.if-not-tested-3.false c.test-tested.ensures.passes c.in-Some.ensures.cases.0)
+    on_ok_weaker c.descend.result (led_through _ c.args.above.now _ c.args.node.now (thin_step c.args.step.now) (thin_step c.in-Some.next.now) (thin_of c.args.rest.now) (thin_of c.in-Some.further.now) _ _ _ _ unchanged c.in_ok-name.ensures c.label.ensures c.if-not-tested-3.false c.test-tested.ensures.passes (ap thin_of c.in-Some.ensures.cases.0))
     c.descend.ensures.places
 
 pub visit-returns-clause-full : goal.visit-returns-clause-full
@@ -63,5 +64,5 @@ visit-returns-clause-full t c =
           ap (λ (e : Evaluation). e.full.items) w.found-is
           ∙ sym (ap (λ (b : Bool). c.args.found.now.full.items ++ cond b (c.in_ok-name.name ∷ []) []) w.if-tested.false ∙ append-nil c.args.found.now.full.items)
     ] in
-    on_ok_weaker c.descend.result (looked_through _ c.args.above.now _ c.args.node.now c.args.step.now c.in-Some.next.now c.args.rest.now c.in-Some.further.now _ _ _ _ _ pushed c.in_ok-name.ensures c.label.ensures c.if-not-tested-3.false c.test-tested.ensures.passes c.test-tested.ensures.looks c.in-Some.ensures.cases.0)
+    on_ok_weaker c.descend.result (looked_through _ c.args.above.now _ c.args.node.now (thin_step c.args.step.now) (thin_step c.in-Some.next.now) (thin_of c.args.rest.now) (thin_of c.in-Some.further.now) _ _ _ _ _ pushed c.in_ok-name.ensures c.label.ensures c.if-not-tested-3.false c.test-tested.ensures.passes c.test-tested.ensures.looks (ap thin_of c.in-Some.ensures.cases.0))
     c.descend.ensures.full

@@ -1,6 +1,6 @@
 use Rattle.std.proofs.Common.{rules, ◌≡◌, ◌++◌, List, ℕ, sym, subst}
 use Rattle.std.proofs.lemmas.Result.{err_from_is_err_and}
-use Rattle.iris_xpath.specs.Syntax.{Equals}
+use Rattle.iris_xpath.specs.declared.expression.Expression.{Expression}
 use Rattle.iris_xpath.specs.Grammar.{ReadsPredicate, ReadsAll}
 use Rattle.iris_xpath.specs.Follows.{EndsPredicates}
 use Rattle.iris_xpath.proofs.Pieces.{Left, left_step, left_none, left_end, found_more}
@@ -20,9 +20,9 @@ predicates-preserved c =
     let more = c.in_ok-push.ensures.ok in
     record {
       utf8 = search rules;
-      found = subst (λ (v : List Equals). (f : List ℕ) × (c.args.text.now ≡ f ++ c.in_ok-predicate.after.now) × ReadsAll ReadsPredicate f v) (sym more)
+      found = subst (λ (v : List Expression). (f : List ℕ) × (c.args.text.now ≡ f ++ c.in_ok-predicate.after.now) × ReadsAll ReadsPredicate f v) (sym more)
           (found_more ReadsPredicate _ _ _ _ _ c.predicates.invariant.found c.in_ok-predicate.ensures.found);
-      left = subst (λ (v : List Equals). Left ReadsPredicate EndsPredicates c.args.text.now v c.in_ok-predicate.after.now) (sym more)
+      left = subst (λ (v : List Expression). Left ReadsPredicate EndsPredicates c.args.text.now v c.in_ok-predicate.after.now) (sym more)
           (left_step ReadsPredicate EndsPredicates (λ _. Unit {0}) _ _ _ _ _ c.predicates.invariant.left (predicate_here _ (sym c.predicates-test.ensures))
           (λ f w q r _ k. c.in_ok-predicate.ensures.only f w q r k) follows_nothing);
     }

@@ -8,7 +8,7 @@ pub returns-in_default-find_kind-clause-only : goal.returns-in_default-find_kind
 returns-in_default-find_kind-clause-only c front z s h hz e =
     let w = c.in-Some-split_word.ensures.found in
     let k = step_kind _ _ _ _ _ front z s c.in-Some.ensures w.0 w.1 w.2 h hz e in
-    c.in_default-find_kind.ensures (subst (λ (v : List ℕ). Contains c.args.kinds.now v) (sym k.0) k.4)
+    c.in_default-find_kind.ensures (subst (λ (v : List ℕ). Contains c.args.kinds.now v) (sym k.0) h.known)
 
 pub returns-in_err-predicates-clause-only : goal.returns-in_err-predicates-clause-only
 returns-in_err-predicates-clause-only c front z s h hz e =
@@ -20,10 +20,10 @@ returns-in_err-predicates-clause-only c front z s h hz e =
 pub returns-clause-found : goal.returns-clause-found
 returns-clause-found c =
     let w = c.in-Some-split_word.ensures.found in
-    step_found _ _ _ _ _ _ _ _ _ c.in-Some.ensures w.0 w.1 c.in-Some-find_kind.ensures c.in_ok-predicates.ensures.found c.new.ensures
+    step_found _ _ _ _ _ _ _ _ c.in-Some.ensures w.0 w.1 c.in-Some-find_kind.ensures c.in_ok-predicates.ensures.found
 
 pub returns-clause-only : goal.returns-clause-only
 returns-clause-only c front z s h hz e =
     let w = c.in-Some-split_word.ensures.found in
     let k = step_kind _ _ _ _ _ front z s c.in-Some.ensures w.0 w.1 w.2 h hz e in
-    step_last _ _ _ _ z _ s c.new.ensures c.in-Some-find_kind.ensures.0 k.0 (c.in_ok-predicates.ensures.only k.1 z s.predicates k.2 (stops_predicates z hz) k.3)
+    step_last _ _ _ _ z front _ s h c.in-Some-find_kind.ensures.0 k.0 (c.in_ok-predicates.ensures.only k.1 z s.predicates k.2 (stops_predicates z hz) k.3)

@@ -1,6 +1,6 @@
 use Rattle.std.proofs.Common.{rules, ◌≡◌, ◌++◌, [], List, ℕ, sym, refl, subst, append-nil}
 use Rattle.std.proofs.lemmas.Result.{err_from_is_err_and}
-use Rattle.iris_xpath.specs.Syntax.{Main}
+use Rattle.iris_xpath.specs.Syntax.{Syntax}
 use Rattle.iris_xpath.specs.Grammar.{ReadsMain, ReadsAll}
 use Rattle.iris_xpath.specs.Follows.{EndsStep}
 use Rattle.iris_xpath.proofs.Pieces.{Left, left_step, left_none, found_more}
@@ -22,9 +22,9 @@ steps-preserved c =
     let kinds = c.args.kinds.now in
     record {
       utf8 = search rules;
-      found = subst (λ (v : List Main). (f : List ℕ) × (c.args.text.now ≡ f ++ c.in_ok-step.after.now) × ReadsAll (ReadsMain kinds) f v) (sym more)
+      found = subst (λ (v : Syntax). (f : List ℕ) × (c.args.text.now ≡ f ++ c.in_ok-step.after.now) × ReadsAll (ReadsMain kinds) f v) (sym more)
           (found_more (ReadsMain kinds) _ _ _ _ _ c.steps.invariant.found c.in_ok-step.ensures.found);
-      left = subst (λ (v : List Main). Left (ReadsMain kinds) IsEnd c.args.text.now v c.in_ok-step.after.now) (sym more)
+      left = subst (λ (v : Syntax). Left (ReadsMain kinds) IsEnd c.args.text.now v c.in_ok-step.after.now) (sym more)
           (left_step (ReadsMain kinds) IsEnd EndsStep _ _ _ _ _ c.steps.invariant.left (step_here _ (sym c.steps-test.ensures))
           (λ f w s r t e. c.in_ok-step.ensures.only f w s r t e) (follows_step kinds));
     }
