@@ -14,7 +14,8 @@ use Rattle.iris_tree.specs.Universe.{Node, node_at, local_of, IsOrdered}
 use Rattle.iris_tree.specs.Document.{local_at, names_of, place_of}
 use Rattle.iris_json.specs.declared.out.Out.{Out}
 use Rattle.iris_xpath.specs.Syntax.{Syntax}
-use Rattle.iris_xpath.specs.Meaning.{is_looked_into, full_names}
+use Rattle.iris_xpath.specs.ThinMeaning.{is_looked_into, full_names}
+use Rattle.iris_xpath.specs.ThinQuery.{thin_of}
 use Rattle.iris_book.specs.declared.entry.Entry.{Entry}
 use Rattle.iris_book.specs.declared.entry.Entry.TheVariants.{Updated}
 use Rattle.iris_book.specs.declared.update.Update as accepted
@@ -131,7 +132,7 @@ newest_allowed h query good = record {
 
     all_there : All (λ name. IsThere h.history.start name) names
     all_there =
-        All-filter (λ name. is_looked_into (today h.history) ([] ∷ []) query (place_of name)) (λ name. IsThere h.history.start name) (names_of (today h.history))
+        All-filter (λ name. is_looked_into (today h.history) ([] ∷ []) (thin_of query) (place_of name)) (λ name. IsThere h.history.start name) (names_of (today h.history))
         (subst (λ (ns : List (List Label)). All (λ name. IsThere h.history.start name) ns) (sym (names_kept h.history.start _)) (names_there h.history.start good.ordered))
 
     of_cites : (P : Cite → Type 0) → ((name : List Label) → IsThere h.history.start name → P (newest_cite h name)) → All P (map (newest_cite h) names)

@@ -9,7 +9,7 @@ use Rattle.iris_base.specs.NameOrder.{label_eq}
 use Rattle.iris_tree.specs.Universe.{Node}
 use Rattle.iris_tree.specs.Document.{with_locals}
 use Rattle.iris_xpath.specs.Syntax.{Syntax}
-use Rattle.iris_xpath.specs.Meaning.{full_names}
+use Rattle.iris_xpath.specs.ThinMeaning.{full_names}
 use Rattle.iris_book.specs.Book as book
 use Rattle.iris_book.specs.Book.{History, newest, value_at, today}
 use Rattle.iris_cli.specs.declared.event.Event.{Event}
