@@ -1,8 +1,9 @@
 -- The program of a thin query, simplified: ids alone on the way, and of a node under test what its equalities ask for.
-use Rattle.std.proofs.Common.{◌≡◌, ℕ, zero, suc, ◌+◌, Bool, true, false, cond, List, [], ◌∷◌, ◌++◌, map, refl, ap, sym, ◌∙◌, subst, append-nil, Option, Some, None}
+use Rattle.std.proofs.Common.{◌≡◌, ℕ, zero, suc, ◌+◌, Bool, true, false, cond, List, [], ◌∷◌, ◌++◌, map, drop, refl, ap, sym, ◌∙◌, subst, append-nil, Option, Some, None}
 use Rattle.std.specs.List.{list_any, filter_map}
 use Rattle.std.specs.Str.{bytes_eq}
 use Rattle.std.proofs.Math.Bool.{or-false}
+use Rattle.std.proofs.lemmas.List.{drop-map}
 use Rattle.iris_base.specs.declared.name.Label.{Label}
 use Rattle.iris_base.specs.NameOrder.{names_equiv}
 use Rattle.iris_tree.specs.Attrs.{value_of}
@@ -21,7 +22,7 @@ use Rattle.iris_need.specs.declared.need.Need.{Need}
 use Rattle.iris_need.specs.declared.need.State.{State}
 use Rattle.iris_need.specs.declared.need.State.TheVariants as states
 use Rattle.iris_need.specs.Needs.{from_document}
-use Rattle.iris_need.specs.Program.{gather, join, where_so, and_so, Spot, node_spot, document_spot, room, Marks, from_node, is_id, own_attribute, holds, all_hold, some_end, found, tested_at, tested, goes, go_at, program}
+use Rattle.iris_need.specs.Program.{gather, join, where_so, and_so, Spot, node_spot, document_spot, room, Marks, from_node, is_id, own_attribute, holds, all_hold, some_end, found, tested_at, tested, goes, go_at, seek_at, test_at, enter, program}
 use Rattle.iris_need.specs.Run.{Run, give, see_ids, see_full, both, next, Out, View, Seen, ids_known, full_known, after, after_ids, after_full, pair_value, run, eval}
 
 -- ---- programs that are the same to whoever runs them
@@ -163,10 +164,10 @@ abbrev pub thin_goes : ℕ → List Main → List Label → Label → Run (List 
 thin_goes i [] name l = found (node_spot name l)
 thin_goes i (m ∷ ms) name l = thin_step (states.At i ∷ []) i m (thin_goes (i + 1) ms) name
 
--- all of a query, from the document on
-abbrev pub thin_from : Label → List Main → Run (List Item)
-thin_from top [] = give []
-thin_from top (m ∷ ms) = where_so (bytes_eq top.kind m.kind) (thin_tested 0 m (top ∷ []) top (thin_goes 1 ms (top ∷ []) top))
+-- from the document, whose one child is the top node: a step and all further ones
+abbrev pub thin_from : Label → ℕ → List Main → Run (List Item)
+thin_from top i [] = give []
+thin_from top i (m ∷ ms) = where_so (bytes_eq top.kind m.kind) (thin_tested i m (top ∷ []) top (thin_goes (i + 1) ms (top ∷ []) top))
 
 -- the steps of a thin query as its program has them
 abbrev pub thin_steps : List Main → List MainStep
@@ -207,19 +208,67 @@ goes_is top i (m ∷ ms) name l =
 
 -- ---- the whole program
 
-from_top : (top : Label) (ms : List Main) → Same (go_at top 0 (thin_steps ms) document_spot) (thin_from top ms)
-from_top top [] = same (give [])
-from_top top (m ∷ ms) =
+from_top : (top : Label) (i : ℕ) (ms : List Main) → Same (go_at top i (thin_steps ms) document_spot) (thin_from top i ms)
+from_top top i [] = same (give [])
+from_top top i (m ∷ ms) =
     let at = node_spot (top ∷ []) top in
-    same_so (bytes_eq top.kind m.kind) (tested top 0 (main_of (whole_step m)) at (goes top 1 (thin_steps ms) at)) (thin_tested 0 m (top ∷ []) top (thin_goes 1 ms (top ∷ []) top))
-    (tested_is top 0 m (top ∷ []) top (goes top 1 (thin_steps ms) at) (thin_goes 1 ms (top ∷ []) top) (goes_is top 1 ms (top ∷ []) top))
+    same_so (bytes_eq top.kind m.kind) (tested top i (main_of (whole_step m)) at (goes top (i + 1) (thin_steps ms) at)) (thin_tested i m (top ∷ []) top (thin_goes (i + 1) ms (top ∷ []) top))
+    (tested_is top i m (top ∷ []) top (goes top (i + 1) (thin_steps ms) at) (thin_goes (i + 1) ms (top ∷ []) top) (goes_is top (i + 1) ms (top ∷ []) top))
 
 -- from the document on
-pub program_is : (top : Label) (ms : List Main) → Same (program (map whole_step ms) (from_document top)) (thin_from top ms)
+pub program_is : (top : Label) (ms : List Main) → Same (program (map whole_step ms) (from_document top)) (thin_from top 0 ms)
 program_is top ms =
     let r = go_at top 0 (thin_steps ms) document_spot in
-    same_twice (join r (give [])) r (thin_from top ms) (join_nothing r) (from_top top ms)
+    same_twice (join r (give [])) r (thin_from top 0 ms) (join_nothing r) (from_top top 0 ms)
 
 -- the program of a thin query
-pub thin_program_is : (query : Syntax) (top : Label) → is_thin query ≡ true → Same (program query (from_document top)) (thin_from top (thin_of query))
-thin_program_is query top h = subst (λ (q : Syntax). Same (program q (from_document top)) (thin_from top (thin_of query))) (sym (thin_is query h)) (program_is top (thin_of query))
+pub thin_program_is : (query : Syntax) (top : Label) → is_thin query ≡ true → Same (program query (from_document top)) (thin_from top 0 (thin_of query))
+thin_program_is query top h = subst (λ (q : Syntax). Same (program q (from_document top)) (thin_from top 0 (thin_of query))) (sym (thin_is query h)) (program_is top (thin_of query))
+
+-- ---- starts at a node
+
+-- a step that goes on from a node with other states
+abbrev pub thin_seeks : ℕ → List Main → List Label → Label → Run (List Item)
+thin_seeks i [] name l = give []
+thin_seeks i (m ∷ ms) name l = thin_step (states.Seek i ∷ []) i m (thin_goes (i + 1) ms) name
+
+abbrev pub thin_goes_on : ℕ → List Main → List Label → Label → Run (List Item)
+thin_goes_on i [] name l = give []
+thin_goes_on i (m ∷ ms) name l = thin_goes i (m ∷ ms) name l
+
+abbrev pub thin_tests : ℕ → List Main → List Label → Label → Run (List Item)
+thin_tests i [] name l = give []
+thin_tests i (m ∷ ms) name l = thin_tested i m name l (thin_goes (i + 1) ms name l)
+
+-- what a state does at a node
+abbrev pub thin_enter : List Main → List Label → Label → State → Run (List Item)
+thin_enter q name l (states.At i) = thin_goes_on i (drop i q) name l
+thin_enter q name l (states.Seek i) = thin_seeks i (drop i q) name l
+thin_enter q name l (states.Test i) = thin_tests i (drop i q) name l
+thin_enter q name l states.Whole = found (node_spot name l)
+
+goes_on_is : (top : Label) (i : ℕ) (ms : List Main) (name : List Label) (l : Label) → Same (go_at top i (thin_steps ms) (node_spot name l)) (thin_goes_on i ms name l)
+goes_on_is top i [] name l = same (give [])
+goes_on_is top i (m ∷ ms) name l = goes_is top i (m ∷ ms) name l
+
+seeks_is : (top : Label) (i : ℕ) (ms : List Main) (name : List Label) (l : Label) → Same (seek_at top i (thin_steps ms) (node_spot name l)) (thin_seeks i ms name l)
+seeks_is top i [] name l = same (give [])
+seeks_is top i (m ∷ ms) name l =
+    step_is top (λ name. states.Seek i ∷ []) (λ name. states.Seek i ∷ []) i m name (goes top (i + 1) (thin_steps ms)) (thin_goes (i + 1) ms) (goes_is top (i + 1) ms)
+
+tests_is : (top : Label) (i : ℕ) (ms : List Main) (name : List Label) (l : Label) → Same (test_at top i (thin_steps ms) (node_spot name l)) (thin_tests i ms name l)
+tests_is top i [] name l = same (give [])
+tests_is top i (m ∷ ms) name l = tested_is top i m name l (goes top (i + 1) (thin_steps ms) (node_spot name l)) (thin_goes (i + 1) ms name l) (goes_is top (i + 1) ms name l)
+
+drop_steps : (i : ℕ) (ms : List Main) → drop i (thin_steps ms) ≡ thin_steps (drop i ms)
+drop_steps i ms = drop-map main_of i (map whole_step ms) ∙ ap (map main_of) (drop-map whole_step i ms)
+
+-- a state of a start at a node
+pub enter_is : (top : Label) (q : List Main) (name : List Label) (l : Label) (state : State) → Same (enter top (thin_steps q) (node_spot name l) state) (thin_enter q name l state)
+enter_is top q name l (states.At i) =
+    subst (λ (ss : List MainStep). Same (go_at top i ss (node_spot name l)) (thin_goes_on i (drop i q) name l)) (sym (drop_steps i q)) (goes_on_is top i (drop i q) name l)
+enter_is top q name l (states.Seek i) =
+    subst (λ (ss : List MainStep). Same (seek_at top i ss (node_spot name l)) (thin_seeks i (drop i q) name l)) (sym (drop_steps i q)) (seeks_is top i (drop i q) name l)
+enter_is top q name l (states.Test i) =
+    subst (λ (ss : List MainStep). Same (test_at top i ss (node_spot name l)) (thin_tests i (drop i q) name l)) (sym (drop_steps i q)) (tests_is top i (drop i q) name l)
+enter_is top q name l states.Whole = same (found (node_spot name l))
