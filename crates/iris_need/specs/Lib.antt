@@ -1,3 +1,4 @@
+pub mod Documents
 pub mod Needs
 pub mod Pieces
 pub mod Program
