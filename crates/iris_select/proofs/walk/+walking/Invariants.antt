@@ -2,7 +2,7 @@ use Rattle.std.proofs.Common.{◌≡◌, ◌++◌, ◌+◌, ◌*◌, length, map
 use Rattle.iris_tree.specs.Universe.{nodes_of, children_of}
 use Rattle.iris_tree.specs.Document.{place_of}
 use Rattle.iris_select.specs.Places.{edges_of}
-use Rattle.iris_select.specs.Walk.{all_led_to, all_looked_at}
+use Rattle.iris_xpath.specs.Walk.{all_led_to, all_looked_at}
 use Rattle.iris_select.proofs.walk.+walking.Given as goal
 
 abbrev pub decreases-visit : goal.decreases-visit
