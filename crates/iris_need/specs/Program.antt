@@ -21,7 +21,7 @@ use Rattle.iris_xpath.specs.declared.expression.NameTest.TheVariants.{Any, Kind,
 use Rattle.iris_xpath.specs.Syntax.{Syntax, Condition, any_of, all_of, not_so, selects, compares, Conditions, no_conditions, conditions, Side, values_of, literal, number, Steps, here, attribute, itself, parent, step, MainStep, main_of}
 use Rattle.iris_xpath.specs.Meaning.{Value, of_text, of_number, compare, has_some, is_reached, passes, front, attribute_at}
 use Rattle.iris_xpath.specs.Meaning as meaning
-use Rattle.iris_xpath.specs.ThinMeaning.{is_above}
+use Rattle.iris_xpath.specs.Places.{is_above}
 use Rattle.iris_need.specs.declared.need.State.{State}
 use Rattle.iris_need.specs.declared.need.State.TheVariants as states
 use Rattle.iris_need.specs.declared.need.Start.{Start}
