@@ -3,7 +3,7 @@ use Rattle.std.proofs.Common.{◌≡◌, List, [], ◌∷◌, fold, All, refl, a
 use Rattle.std.specs.List.{AllByRecursion}
 use Rattle.std.specs.List.Sorted.{IsStrictlySortedBy}
 use Rattle.std.specs.Cmp.Lexicographic.{slice_cmp}
-use Rattle.std.specs.Ordering.{on, ordering_reverse}
+use Rattle.std.specs.Ordering.{ordering_reverse}
 use Rattle.std.specs.declared.cmp.Ordering.{Ordering}
 use Rattle.std.specs.declared.cmp.Ordering.TheVariants.{Less, Equal, Greater}
 use Rattle.std.proofs.lemmas.List.Elements.{All-from_recursion, recursion_from_All}
@@ -13,6 +13,7 @@ use Rattle.iris_fragment.specs.declared.piece.Level.{Level}
 use Rattle.iris_fragment.specs.declared.piece.Level.TheVariants.{Ids, Full}
 use Rattle.iris_fragment.proofs.Names.{name_exact}
 use Rattle.iris_need.specs.declared.need.Need.{Need}
+use Rattle.iris_need.specs.Laws.{need_cmp, AreOrdered}
 use Rattle.iris_need.specs.Needs.{greater, put_look, with_look, merged}
 
 -- ---- what is so of the name and the level of each look is so of each need
@@ -65,9 +66,6 @@ merged_empty (look ∷ looks) e = absurd (with_some [] look (none_before looks (
 
 -- ---- in the order of names, each name once
 
-abbrev pub need_cmp : Need → Need → Ordering
-need_cmp = on (λ need. need.name) (slice_cmp label_cmp)
-
 -- all of these names are greater
 abbrev AreAfter : Need → List Need → Type 0
 AreAfter need = AllByRecursion (λ later. need_cmp need later ≡ Less)
@@ -85,21 +83,21 @@ with_after : (first look : Need) → need_cmp first look ≡ Less → (needs : L
 with_after first look p [] h = (p, tt)
 with_after first look p (need ∷ needs) h = put_after first (need_cmp look need) look need needs (with_look needs look) p h.0 h.1 (with_after first look p needs h.1)
 
-put_sorted : (o : Ordering) (look need : Need) (needs more : List Need) → need_cmp look need ≡ o → AreAfter need needs → IsStrictlySortedBy need_cmp needs → (need_cmp need look ≡ Less → AreAfter need more) → IsStrictlySortedBy need_cmp more → IsStrictlySortedBy need_cmp (put_look o look need needs more)
+put_ordered : (o : Ordering) (look need : Need) (needs more : List Need) → need_cmp look need ≡ o → AreAfter need needs → AreOrdered needs → (need_cmp need look ≡ Less → AreAfter need more) → AreOrdered more → AreOrdered (put_look o look need needs more)
 unfolding IsStrictlySortedBy
-put_sorted Less look need needs more e first rest also sorted = ((e, after_more look need e needs first), (first, rest))
-put_sorted Equal look need needs more e first rest also sorted = (first, rest)
-put_sorted Greater look need needs more e first rest also sorted = (also (names_total.antisymm need.name look.name ∙ ap ordering_reverse e), sorted)
+put_ordered Less look need needs more e first rest also ordered = ((e, after_more look need e needs first), (first, rest))
+put_ordered Equal look need needs more e first rest also ordered = (first, rest)
+put_ordered Greater look need needs more e first rest also ordered = (also (names_total.antisymm need.name look.name ∙ ap ordering_reverse e), ordered)
 
-with_sorted : (look : Need) (needs : List Need) → IsStrictlySortedBy need_cmp needs → IsStrictlySortedBy need_cmp (with_look needs look)
+with_ordered : (look : Need) (needs : List Need) → AreOrdered needs → AreOrdered (with_look needs look)
 unfolding IsStrictlySortedBy
-with_sorted look [] h = (tt, tt)
-with_sorted look (need ∷ needs) h = put_sorted (need_cmp look need) look need needs (with_look needs look) refl h.0 h.1 (λ e. with_after need look e needs h.0) (with_sorted look needs h.1)
+with_ordered look [] h = (tt, tt)
+with_ordered look (need ∷ needs) h = put_ordered (need_cmp look need) look need needs (with_look needs look) refl h.0 h.1 (λ e. with_after need look e needs h.0) (with_ordered look needs h.1)
 
-fold_sorted : (looks needs : List Need) → IsStrictlySortedBy need_cmp needs → IsStrictlySortedBy need_cmp (fold with_look needs looks)
-fold_sorted [] needs h = h
-fold_sorted (look ∷ looks) needs h = fold_sorted looks (with_look needs look) (with_sorted look needs h)
+fold_ordered : (looks needs : List Need) → AreOrdered needs → AreOrdered (fold with_look needs looks)
+fold_ordered [] needs h = h
+fold_ordered (look ∷ looks) needs h = fold_ordered looks (with_look needs look) (with_ordered look needs h)
 
-pub merged_sorted : (looks : List Need) → IsStrictlySortedBy need_cmp (merged looks)
+pub merged_ordered : (looks : List Need) → AreOrdered (merged looks)
 unfolding IsStrictlySortedBy
-merged_sorted looks = fold_sorted looks [] tt
+merged_ordered looks = fold_ordered looks [] tt

@@ -1,5 +1,5 @@
 -- What is missing is looked at over each document that agrees, and where nothing is missing, all is as over all of that document.
-use Rattle.std.proofs.Common.{◌≡◌, Bool, true, false, cond, not, ◌⊎◌, inl, inr, List, [], ◌∷◌, map, filter, Option, Some, None, is_some, option_map, Contains, refl, sym, ap, subst, ◌∙◌, arith}
+use Rattle.std.proofs.Common.{◌≡◌, Bool, true, false, cond, not, ◌⊎◌, inl, inr, List, [], ◌∷◌, map, filter, Option, Some, None, option_map, Contains, refl, sym, ap, subst, ◌∙◌, arith}
 use Rattle.std.specs.Cmp.Lexicographic.{slice_cmp}
 use Rattle.std.specs.BTreeMap.{is_at}
 use Rattle.std.specs.Option.{option_map_or}
@@ -23,7 +23,7 @@ use Rattle.iris_need.specs.Run.{Known, View, Out, eval, all_of, ids_in, local_in
 use Rattle.iris_need.specs.Pieces.{Pieces, piece_at, known_of, view_of, IsLocalOf, IsPieceAt, Agrees}
 use Rattle.iris_need.specs.Program.{program}
 use Rattle.iris_need.specs.Needs.{is_under, seen_from, evaluation, looks, is_missing, missing_of, merged, without_states, support_of, full_part, full_names, from_document}
-use Rattle.iris_need.specs.Laws.{HasLook, IsMoreThanStart}
+use Rattle.iris_need.specs.Laws.{HasLook, IsOpenAtStart}
 use Rattle.iris_need.proofs.Runs.{contains_first, contains_later, first_or_later, grows, determined, AllMet}
 use Rattle.iris_need.proofs.Merged.{merged_have, merged_empty}
 
@@ -140,17 +140,24 @@ not_so : (b : Bool) → not b ≡ true → b ≡ false
 not_so true e = absurd (cc)
 not_so false e = refl
 
-not_met : (l m : Level) (k : Option Known) → not (meets_known l k) ≡ true → ((l ≡ level.Full) × (m ≡ level.Ids)) ⊎ (meets_known m k ≡ false)
-not_met level.Ids m (Some k) h = absurd (cc)
-not_met level.Ids m None h = inr refl
-not_met level.Full level.Ids k h = inl (refl, refl)
-not_met level.Full level.Full None h = inr refl
-not_met level.Full level.Full (Some k) h = inr (not_so (is_some k.local) h)
+unmet_at : (above : List Label) (w : View) (look : Need) (name : List Label) (l : Level) → look.name ≡ name → look.level ≡ l
+    → is_under look.name above ≡ true → not (meets (seen_from above w) look) ≡ true → meets_known l (w name) ≡ false
+unmet_at above w look name l e f under h =
+    let here : not (meets_known look.level (w look.name)) ≡ true = subst (λ b. not (meets_known look.level (cond b (w look.name) None)) ≡ true) under h in
+    not_so (meets_known l (w name)) (subst (λ n. not (meets_known l (w n)) ≡ true) e (subst (λ m. not (meets_known m (w look.name)) ≡ true) f here))
 
-pub missing_here : (query : Syntax) (start : Start) (view : Pieces) (need : Need) → Contains (missing_of query start view) need → need.name ≡ start.name → IsMoreThanStart start view need
-missing_here query start view need h e =
+pub missing_unmet : (query : Syntax) (start : Start) (view : Pieces) (need : Need) → Contains (missing_of query start view) need → meets (view_of view) need ≡ false
+missing_unmet query start view need h =
     let s = missing_look query start view need h in
-    let w = view_of view in
-    let here : not (meets_known s.0.level (w s.0.name)) ≡ true = subst (λ b. not (meets_known s.0.level (cond b (w s.0.name) None)) ≡ true) s.4 s.5 in
-    let own : not (meets_known need.level (w start.name)) ≡ true = subst (λ name. not (meets_known need.level (w name)) ≡ true) (s.2 ∙ e) (subst (λ l. not (meets_known l (w s.0.name)) ≡ true) s.3 here) in
-    not_met need.level start.level (w start.name) own
+    unmet_at start.name (view_of view) s.0 need.name need.level s.2 s.3 s.4 s.5
+
+-- what is not met at one level, at another
+open_at : (l m : Level) (k : Option Known) → meets_known l k ≡ false → ((l ≡ level.Full) × (m ≡ level.Ids)) ⊎ (meets_known m k ≡ false)
+open_at level.Ids m (Some k) h = absurd (cc)
+open_at level.Ids m None h = inr refl
+open_at level.Full level.Ids k h = inl (refl, refl)
+open_at level.Full level.Full k h = inr h
+
+pub missing_here : (query : Syntax) (start : Start) (view : Pieces) (need : Need) → Contains (missing_of query start view) need → need.name ≡ start.name → IsOpenAtStart start view need
+missing_here query start view need h e =
+    open_at need.level start.level (view_of view start.name) (subst (λ name. meets_known need.level (view_of view name) ≡ false) e (missing_unmet query start view need h))
