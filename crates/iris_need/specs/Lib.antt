@@ -1,4 +1,5 @@
 pub mod Documents
+pub mod Laws
 pub mod Needs
 pub mod Pieces
 pub mod Program

@@ -2,8 +2,13 @@
 //! lacks nothing.
 #![tactic(auto)]
 
+mod laws;
 mod need;
 mod view;
 
+pub use laws::{
+    answer_is_determined, missing_lies, needs_are_ordered, support_has_full_names,
+    undecided_is_real_work,
+};
 pub use need::{Need, Start, State};
 pub use view::View;
