@@ -2,10 +2,12 @@
 //! lacks nothing.
 #![tactic(auto)]
 
+mod exists;
 mod laws;
 mod need;
 mod view;
 
+pub use exists::missing_exists;
 pub use laws::{
     answer_is_determined, missing_lies, needs_are_ordered, support_has_full_names,
     undecided_is_real_work,
