@@ -182,7 +182,7 @@ places_found document query s ss above new old ordered is top start h =
 
 -- ---- the names
 
-under_names : (above : List Label) (l : Label) (ms : List (List Label)) → map (λ m. (above ++ l ∷ []) ++ m) ms ≡ map (λ m. above ++ m) (map (λ m. l ∷ m) ms)
+pub under_names : (above : List Label) (l : Label) (ms : List (List Label)) → map (λ m. (above ++ l ∷ []) ++ m) ms ≡ map (λ m. above ++ m) (map (λ m. l ∷ m) ms)
 under_names above l ms = map_same _ _ (λ (m : List Label). append_assoc above (l ∷ []) m) ms ∙ sym (map_map (λ m. above ++ m) (λ m. l ∷ m) ms)
 
 -- the names below a node have a label
