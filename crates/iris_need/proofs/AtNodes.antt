@@ -1,5 +1,5 @@
 -- From the document on a thin query looks at nodes of the document alone.
-use Rattle.std.proofs.Common.{◌≡◌, ℕ, zero, suc, ◌+◌, Bool, true, false, List, [], ◌∷◌, ◌++◌, Option, Some, IsSome, All, Contains, refl, ap, sym, ◌∙◌, subst}
+use Rattle.std.proofs.Common.{◌≡◌, ℕ, zero, suc, ◌+◌, Bool, true, false, List, [], ◌∷◌, ◌++◌, Option, IsSome, All, Contains, refl, ap, sym, subst}
 use Rattle.std.specs.Str.{bytes_eq}
 use Rattle.std.proofs.lemmas.List.Elements.{All-nil, All-cons, All-append, All-contains, All-weaker, All-contains_itself}
 use Rattle.iris_base.specs.declared.name.Label.{Label}
@@ -13,12 +13,12 @@ use Rattle.iris_need.specs.declared.need.State.TheVariants as states
 use Rattle.iris_need.specs.Documents.{IsDocument}
 use Rattle.iris_need.specs.Needs.{looks, missing_of, from_document}
 use Rattle.iris_need.specs.Pieces.{Pieces, Agrees}
-use Rattle.iris_need.specs.Program.{each, gather, where_so, and_so, is_id, subtree, program}
-use Rattle.iris_need.specs.Run.{Run, give, see_ids, see_full, both, next, Out, run, after, all_of, eval, ids_in, local_in}
+use Rattle.iris_need.specs.Program.{each, gather, where_so, and_so, is_id, subtree}
+use Rattle.iris_need.specs.Run.{Run, give, see_ids, see_full, both, next, run, after, all_of, eval, ids_in, local_in}
 use Rattle.iris_need.proofs.Documents.{Stands, AllStand, children_stand, top_stands, room_is, ids_are}
 use Rattle.iris_need.proofs.Missing.{real_work}
 use Rattle.iris_need.proofs.Runs.{evals}
-use Rattle.iris_need.proofs.Thin.{has_text, all_have_text, thin_tested, thin_step, thin_goes, thin_from, thin_program_is}
+use Rattle.iris_need.proofs.Thin.{has_text, all_have_text, thin_tested, thin_goes, thin_from, thin_program_is}
 
 -- ---- programs that look at nodes alone
 
@@ -36,8 +36,9 @@ LooksAtNodes document (next r k) = LooksAtNodes document r × LooksAtNodes docum
 abbrev AtNode : Node → Need → Type 0
 AtNode document look = IsNode document look.name
 
-after_log : {A B : Type 0} (looks : List Need) (o : Option A) (a : A) (f : A → Out B) → o ≡ Some a → looks ++ (f a).log ≡ (after looks o f).log
-after_log looks o a f e = sym (ap (λ x. (after looks x f).log) e)
+-- of two programs that follow one another the looks of the first come first
+pub next_log : (document : Node) {A B : Type 0} (r : Run A) (k : A → Run B) → (run (all_of document) (next r k)).log ≡ (run (all_of document) r).log ++ (run (all_of document) (k (eval document r))).log
+next_log document r k = ap (λ o. (after (run (all_of document) r).log o (λ a. run (all_of document) (k a))).log) (evals document r)
 
 logged_nodes : (document : Node) {A : Type 0} (t : Run A) → LooksAtNodes document t → All (AtNode document) (run (all_of document) t).log
 logged_nodes document (give a) h = All-nil (AtNode document)
@@ -45,7 +46,7 @@ logged_nodes document (see_ids name marks k) h = All-cons (AtNode document) _ _ 
 logged_nodes document (see_full name marks k) h = All-cons (AtNode document) _ _ h.0 (logged_nodes document (k (ids_in document name) (local_in document name)) h.1)
 logged_nodes document (both f r s) h = All-append (AtNode document) (run (all_of document) r).log (run (all_of document) s).log (logged_nodes document r h.0) (logged_nodes document s h.1)
 logged_nodes document (next r k) h =
-    subst (All (AtNode document)) (after_log (run (all_of document) r).log (run (all_of document) r).value (eval document r) (λ a. run (all_of document) (k a)) (evals document r))
+    subst (All (AtNode document)) (sym (next_log document r k))
     (All-append (AtNode document) (run (all_of document) r).log (run (all_of document) (k (eval document r))).log (logged_nodes document r h.0) (logged_nodes document (k (eval document r)) h.1))
 
 -- ---- thin programs do

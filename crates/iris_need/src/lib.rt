@@ -2,15 +2,15 @@
 //! lacks nothing.
 #![tactic(auto)]
 
-mod exists;
 mod laws;
 mod need;
+mod thin_laws;
 mod view;
 
-pub use exists::missing_exists;
 pub use laws::{
     answer_is_determined, missing_lies, needs_are_ordered, support_has_full_names,
     undecided_is_real_work,
 };
 pub use need::{Need, Start, State};
+pub use thin_laws::{full_names_are_meant, missing_exists};
 pub use view::View;
