@@ -1,5 +1,5 @@
 -- Where the nodes of a document stand: by their names, with the levels that their names leave below them.
-use Rattle.std.proofs.Common.{◌≡◌, ℕ, zero, suc, ◌+◌, ◌<◌, ◌≤◌, Bool, true, false, cond, List, [], ◌∷◌, ◌++◌, length, map, refl, ap, sym, ◌∙◌, arith, Option, Some, None, option_and_then}
+use Rattle.std.proofs.Common.{◌≡◌, ℕ, zero, suc, ◌+◌, ◌≤◌, Bool, true, false, cond, List, [], ◌∷◌, ◌++◌, length, map, refl, ap, ◌∙◌, arith, Option, Some, None, option_and_then}
 use Rattle.std.specs.List.{AllByRecursion}
 use Rattle.std.specs.Option.{option_map_or}
 use Rattle.std.proofs.lemmas.List.{length-append}
@@ -7,10 +7,9 @@ use Rattle.std.proofs.lemmas.List.Elements.{recursion_from_All}
 use Rattle.iris_base.specs.declared.name.Label.{Label}
 use Rattle.iris_base.specs.NameOrder.{label_eq, labels_equiv}
 use Rattle.iris_tree.specs.declared.local.Local.{Local}
-use Rattle.iris_tree.specs.Universe.{Node, node, Nodes, no_nodes, nodes, list_of, label_of, local_of, children_of, ids_of, child_of, part_at, node_at, IsOrdered, AreOrdered}
+use Rattle.iris_tree.specs.Universe.{Node, node, Nodes, no_nodes, nodes, label_of, local_of, children_of, ids_of, child_of, part_at, node_at, IsOrdered, AreOrdered}
 use Rattle.iris_tree.specs.Document.{Part, a_node, place_of, name_of, part_at_place, below_node, names_of, all_names_of}
 use Rattle.iris_json.specs.declared.item.Element.TheVariants as elements
-use Rattle.iris_json.specs.declared.item.Item.{Item}
 use Rattle.iris_fragment.proofs.Cities.{node_last}
 use Rattle.iris_xpath.proofs.Meant.{Finds, finds_all}
 use Rattle.iris_need.specs.Documents.{IsDocument, item_of, item_in}

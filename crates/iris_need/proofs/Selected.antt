@@ -1,5 +1,5 @@
 -- Over a whole document the program of a thin query gives the items of the places that the query selects.
-use Rattle.std.proofs.Common.{◌≡◌, ℕ, zero, suc, ◌+◌, Bool, true, false, cond, ◌&&◌, List, [], ◌∷◌, ◌++◌, map, refl, ap, sym, ◌∙◌, Option, Some, None}
+use Rattle.std.proofs.Common.{◌≡◌, ℕ, zero, suc, ◌+◌, Bool, true, false, cond, ◌&&◌, List, [], ◌∷◌, ◌++◌, map, refl, ap, sym, ◌∙◌, Option, Some}
 use Rattle.std.specs.List.{list_all, filter_map}
 use Rattle.std.specs.Str.{bytes_eq}
 use Rattle.std.proofs.lemmas.List.{map-append}
@@ -8,8 +8,8 @@ use Rattle.iris_base.specs.declared.name.Label.{Label}
 use Rattle.iris_tree.specs.Attrs.{value_of}
 use Rattle.iris_tree.specs.declared.local.Local.{Local}
 use Rattle.iris_tree.specs.NodeCode.{nodes_of-list_of}
-use Rattle.iris_tree.specs.Universe.{Node, node, Nodes, no_nodes, nodes, nodes_of, list_of, label_of, labels_of, local_of, ids_of, node_at}
-use Rattle.iris_tree.specs.Document.{Place, place_of, a_node}
+use Rattle.iris_tree.specs.Universe.{Node, node, Nodes, no_nodes, nodes, nodes_of, list_of, label_of, labels_of, local_of, node_at}
+use Rattle.iris_tree.specs.Document.{place_of, a_node}
 use Rattle.iris_json.specs.declared.item.Element.TheVariants as elements
 use Rattle.iris_json.specs.declared.item.Item.{Item}
 use Rattle.iris_xpath.specs.Meaning as tree
@@ -24,10 +24,10 @@ use Rattle.iris_need.specs.declared.need.State.{State}
 use Rattle.iris_need.specs.declared.need.State.TheVariants as states
 use Rattle.iris_need.specs.Documents.{IsDocument, item_in, items_in}
 use Rattle.iris_need.specs.Needs.{from_document}
-use Rattle.iris_need.specs.Program.{each, gather, where_so, and_so, is_id, room, subtree, found, node_spot, program}
-use Rattle.iris_need.specs.Run.{Run, eval, ids_in, local_in}
+use Rattle.iris_need.specs.Program.{each, gather, where_so, and_so, is_id, subtree, program}
+use Rattle.iris_need.specs.Run.{Run, eval, ids_in}
 use Rattle.iris_need.proofs.Documents.{Stands, AllStand, children_stand, top_stands, room_is, ids_are, local_is, item_is}
-use Rattle.iris_need.proofs.Thin.{has_text, all_have_text, thin_tested, thin_step, thin_goes, thin_from, thin_program_is}
+use Rattle.iris_need.proofs.Thin.{has_text, all_have_text, thin_tested, thin_goes, thin_from, thin_program_is}
 
 -- ---- words of programs
 
@@ -75,10 +75,10 @@ text_by : (document : Node) (by_id : Bool) (marks : List State) (e : Equals) (n 
 text_by document true marks e n name h = refl
 text_by document false marks e n name h = ap (λ (x : Local). is_text (value_of x.attrs e.name) e.value) (local_is document name n h)
 
-text_is : (document : Node) (marks : List State) (e : Equals) (n : Node) (name : List Label) → node_at document name ≡ Some n → eval document (has_text (is_id e.name) marks e name (label_of n)) ≡ holds (a_node n) e
+pub text_is : (document : Node) (marks : List State) (e : Equals) (n : Node) (name : List Label) → node_at document name ≡ Some n → eval document (has_text (is_id e.name) marks e name (label_of n)) ≡ holds (a_node n) e
 text_is document marks e n name h = text_by document (is_id e.name) marks e n name h
 
-texts_are : (document : Node) (marks : List State) (es : List Equals) (n : Node) (name : List Label) → node_at document name ≡ Some n → eval document (all_have_text marks es name (label_of n)) ≡ list_all (holds (a_node n)) es
+pub texts_are : (document : Node) (marks : List State) (es : List Equals) (n : Node) (name : List Label) → node_at document name ≡ Some n → eval document (all_have_text marks es name (label_of n)) ≡ list_all (holds (a_node n)) es
 texts_are document marks [] n name h = refl
 texts_are document marks (e ∷ es) n name h =
     eval_and document (eval document (has_text (is_id e.name) marks e name (label_of n))) (all_have_text marks es name (label_of n))

@@ -1,5 +1,5 @@
 -- Documents as evaluations need them, and the items of their places.
-use Rattle.std.specs.Prelude.{ℕ, ◌≤◌, List, length, All, Option, Some, None, option_and_then}
+use Rattle.std.specs.Prelude.{◌≤◌, List, length, All, Option, Some, None, option_and_then}
 use Rattle.std.specs.List.{filter_map}
 use Rattle.iris_base.specs.declared.name.Label.{Label}
 use Rattle.iris_tree.specs.Universe.{Node, IsOrdered}

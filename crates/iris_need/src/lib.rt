@@ -4,6 +4,7 @@
 
 mod laws;
 mod need;
+mod thin_laws;
 mod view;
 
 pub use laws::{
@@ -11,4 +12,5 @@ pub use laws::{
     undecided_is_real_work,
 };
 pub use need::{Need, Start, State};
+pub use thin_laws::{full_names_are_meant, missing_exists};
 pub use view::View;
