@@ -111,13 +111,13 @@ local_is document name n h = ap (λ (o : Option Node). option_map_or local_of o 
 
 -- ---- the item of a node
 
-and_none : {A B C : Type 0} (f : A → Option B) (g : A → Option C) (h : C → Option B) (o : Option A) → ((a : A) → f a ≡ option_and_then h (g a)) → option_and_then f o ≡ option_and_then h (option_and_then g o)
-and_none f g h None same = refl
-and_none f g h (Some a) same = same a
+found_then : {A B C : Type 0} (f : A → Option B) (g : A → Option C) (h : C → Option B) (o : Option A) → ((a : A) → f a ≡ option_and_then h (g a)) → option_and_then f o ≡ option_and_then h (option_and_then g o)
+found_then f g h None same = refl
+found_then f g h (Some a) same = same a
 
 below_is : (name : List Label) (n : Node) → below_node n (place_of name) ≡ option_and_then (λ m. Some (a_node m)) (part_at n name)
 below_is [] n = refl
-below_is (l ∷ name) n = and_none (λ child. below_node child (place_of name)) (λ child. part_at child name) (λ m. Some (a_node m)) (child_of l (children_of n)) (below_is name)
+below_is (l ∷ name) n = found_then (λ child. below_node child (place_of name)) (λ child. part_at child name) (λ m. Some (a_node m)) (child_of l (children_of n)) (below_is name)
 
 top_part : (b : Bool) (o : Option Part) (p : Option Node) → o ≡ option_and_then (λ m. Some (a_node m)) p → cond b o None ≡ option_and_then (λ m. Some (a_node m)) (cond b p None)
 top_part true o p h = h
