@@ -215,13 +215,13 @@ goes_on document i (m ∷ ms) (node l local below) name levels h first named =
 
 -- ---- the whole query
 
-from_full : (document : Node) (m : Main) (ms : List Main) → IsDocument document → full_of (log document (thin_from (label_of document) 0 (m ∷ ms))) ≡ thin.full_names document (m ∷ ms)
-from_full document m ms h = (child_block document 1 0 m ms [] document 15 (goes_on document 1 ms) (top_stands document h)).full_at ∙ looked_is document h.0 m ms
+from_full : (query : Syntax) (document : Node) (m : Main) (ms : List Main) → thin_of query ≡ m ∷ ms → IsDocument document → full_of (log document (thin_from (label_of document) 0 (m ∷ ms))) ≡ thin.full_names document query
+from_full query document m ms is h = (child_block document 1 0 m ms [] document 15 (goes_on document 1 ms) (top_stands document h)).full_at ∙ looked_is document h.0 query m ms is
 
 program_full : (query : Syntax) (document : Node) → is_thin query ≡ true → full_names query document ≡ full_of (log document (thin_from (label_of document) 0 (thin_of query)))
 program_full query document h = ap (λ o. full_of o.log) ((thin_program_is query (label_of document) h).runs (all_of document))
 
 -- what an evaluation looks at with level Full is what the meaning of a thin query says is looked into
-pub full_names_meant : (query : Syntax) (document : Node) → is_thin query ≡ true → query ≢ [] → IsDocument document → full_names query document ≡ thin.full_names document (thin_of query)
+pub full_names_meant : (query : Syntax) (document : Node) → is_thin query ≡ true → query ≢ [] → IsDocument document → full_names query document ≡ thin.full_names document query
 full_names_meant [] document h some is = absurd (some refl)
-full_names_meant (s ∷ query) document h some is = program_full (s ∷ query) document h ∙ from_full document (thin_step s) (thin_of query) is
+full_names_meant (s ∷ query) document h some is = program_full (s ∷ query) document h ∙ from_full (s ∷ query) document (thin_step s) (thin_of query) refl is

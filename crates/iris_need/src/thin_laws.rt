@@ -3,7 +3,7 @@ ghost use Rattle.std.specs.Prelude.{◌≡◌, ◌≢◌, true, [], All, IsSome}
 ghost use Rattle.iris_tree.specs.Universe.{Node, label_of, node_at};
 ghost use Rattle.iris_xpath.specs.Syntax.{Syntax};
 ghost use Rattle.iris_xpath.specs.ThinMeaning as meaning;
-ghost use Rattle.iris_xpath.specs.ThinQuery.{is_thin, thin_of};
+ghost use Rattle.iris_xpath.specs.ThinQuery.{is_thin};
 ghost use Rattle.iris_need.specs.Documents.{IsDocument};
 ghost use Rattle.iris_need.specs.Needs.{missing_of, full_names, from_document};
 ghost use Rattle.iris_need.specs.Pieces.{Pieces, Agrees};
@@ -25,5 +25,5 @@ pub fn full_names_are_meant()
         → is_thin query ≡ true
         → query ≢ []
         → IsDocument document
-        → full_names query document ≡ meaning.full_names document (thin_of query) }
+        → full_names query document ≡ meaning.full_names document query }
 {}
