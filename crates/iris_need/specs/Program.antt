@@ -9,7 +9,7 @@ use Rattle.iris_base.specs.NameOrder.{label_eq}
 use Rattle.iris_tree.specs.declared.local.Local.{Local}
 use Rattle.iris_tree.specs.Attrs.{value_of}
 use Rattle.iris_tree.specs.Universe.{Node, node, nodes_of, no_nodes}
-use Rattle.iris_tree.specs.Document.{Edge, position, label, Place, Part, whole, a_node, a_plain, below_plain, numbered, plain_places}
+use Rattle.iris_tree.specs.Document.{position, label, Place, Part, whole, a_node, a_plain, below_plain, numbered, plain_places}
 use Rattle.iris_fragment.specs.declared.piece.Level.{Level}
 use Rattle.iris_fragment.specs.declared.piece.Level.TheVariants.{Ids, Full}
 use Rattle.iris_json.specs.declared.item.Element.TheVariants as elements
