@@ -1,3 +1,4 @@
+pub mod Allowed
 pub mod Halt
 pub mod Lines
 pub mod Messages
@@ -6,5 +7,6 @@ pub mod Played
 pub mod Run
 pub mod Says
 pub mod Sessions
+pub mod Statuses
 pub mod Stepped
 pub mod Taken

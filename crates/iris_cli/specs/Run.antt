@@ -57,14 +57,18 @@ version_of h name = option_map_or (λ version. version) (latest h.history name) 
 abbrev pub newest_cite : Held → List Label → Cite
 newest_cite h name = record { name = name; version = version_of h name; stamp = h.now }
 
--- An answer has the items that today's document has for the query, and cites the names of the nodes that were looked into, in the order of names, each once.
-abbrev pub answer_text : Held → ℕ → Syntax → List ℕ
-answer_text h request query = compact_text (object
-    (member (codes "answer") (items_of_query (today h.history) query)
-    (member (codes "cites") (cites_data (map (newest_cite h) (full_names (today h.history) query)))
-    (member (codes "newest") (boolean true)
+-- the line of an answer with these items and cites
+abbrev pub answer_line : ℕ → Data → List Cite → Bool → List ℕ
+answer_line request items cites newest_only = compact_text (object
+    (member (codes "answer") items
+    (member (codes "cites") (cites_data cites)
+    (member (codes "newest") (boolean newest_only)
     (member (codes "request") (count request)
     no_members)))))
+
+-- An answer has the items that today's document has for the query, and cites the names of the nodes that were looked into, in the order of names, each once.
+abbrev pub answer_text : Held → ℕ → Syntax → List ℕ
+answer_text h request query = answer_line request (items_of_query (today h.history) query) (map (newest_cite h) (full_names (today h.history) query)) true
 
 abbrev pub audit_text : Held → ℕ → Syntax → List ℕ
 audit_text h request query = compact_text (object

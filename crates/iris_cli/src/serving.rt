@@ -9,7 +9,7 @@ ghost use Rattle.iris_cli.specs.Sessions.{held_of};
 use crate::event::{Sent, Update};
 use crate::site::Site;
 use iris_book::{Book, Entry};
-use iris_json::{Cite, Item, Out};
+use iris_json::{Cite, Out};
 use iris_select::{evaluate, items_at, select};
 use iris_tree::{ChangeError, Local, Mem, Memory, Name, Sequence, Tree};
 use iris_xpath::Query;

@@ -1,6 +1,7 @@
 //! How a run of the program ends.
 ghost use Rattle.std.specs.Prelude.{◌≡◌};
 ghost use Rattle.iris_cli.specs.Played.{last_out};
+ghost use Rattle.iris_cli.specs.Statuses.{number_of};
 
 use iris_json::{Out, Which, Why};
 
@@ -25,7 +26,9 @@ pub enum Status {
 
 impl Status {
     /// The exit status of the program.
-    pub fn number(self) -> u8 {
+    pub fn number(self) -> u8
+        ensures { result ≡ number_of self }
+    {
         match self {
             Status::Done => 0,
             Status::Usage => 2,

@@ -44,7 +44,7 @@ part_last : (n : Node) (ls : List Label) (x : Label) → part_at n (ls ++ x ∷ 
 part_last n [] x = and_some (child_of x (children_of n))
 part_last n (l ∷ ls) x = below_last (child_of l (children_of n)) ls x (λ m. part_last m ls x)
 
-node_last : (city : Node) (a : Label) (ls : List Label) (x : Label) → node_at city (a ∷ ls ++ x ∷ []) ≡ option_and_then (λ p. child_of x (children_of p)) (node_at city (a ∷ ls))
+pub node_last : (city : Node) (a : Label) (ls : List Label) (x : Label) → node_at city (a ∷ ls ++ x ∷ []) ≡ option_and_then (λ p. child_of x (children_of p)) (node_at city (a ∷ ls))
 node_last city a ls x = by_top (label_eq (label_of city) a)
   where
     by_top : (b : Bool) → (if b then part_at city (ls ++ x ∷ []) else None) ≡ option_and_then (λ p. child_of x (children_of p)) (if b then part_at city ls else None)

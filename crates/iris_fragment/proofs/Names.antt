@@ -30,7 +30,7 @@ equal_from_is_eq Greater h = absurd (cc)
 pub name_self : (n : List Label) → slice_cmp label_cmp n n ≡ Equal
 name_self n = equal_from_is_eq _ (sym (names_ties n n) ∙ alike_self n)
 
-label_self : (l : Label) → label_cmp l l ≡ Equal
+pub label_self : (l : Label) → label_cmp l l ≡ Equal
 label_self l = equal_from_is_eq _ (sym (labels_ties l l) ∙ labels_equiv.refl l)
 
 pub alike_exact : (m n : List Label) → pointwise label_eq m n ≡ true → m ≡ n

@@ -11,21 +11,21 @@ use std::test::Fail;
 
 const CITY: &str = "o";
 
-const N: &str = "o n";
+const NORTH: &str = "o n";
 
-const N1: &str = "o n 1";
+const FIRST_BLOCK: &str = "o n 1";
 
-const N1A: &str = "o n 1 1";
+const FIRST_SPACE: &str = "o n 1 1";
 
-const N2: &str = "o n 2";
+const SECOND_BLOCK: &str = "o n 2";
 
-const N2A: &str = "o n 2 1";
+const SECOND_SPACE: &str = "o n 2 1";
 
-const S: &str = "o s";
+const SOUTH: &str = "o s";
 
-const T1: &str = "o s 1";
+const SOUTH_BLOCK: &str = "o s 1";
 
-const T1A: &str = "o s 1 1";
+const SOUTH_SPACE: &str = "o s 1 1";
 
 fn label(kind: &str, id: &str) -> Result<Label, TextError> {
     let kind = Kind::new(kind)?;
@@ -68,10 +68,10 @@ fn free(alloc: Global, value: &str) -> Result<Local, TextError> {
 fn ids_of(alloc: Global, ids: &str) -> Result<Piece, TextError> {
     let children = match ids {
         CITY => listed(alloc, "hood", "n s")?,
-        N => listed(alloc, "block", "1 2")?,
-        N1 => listed(alloc, "space", "1 2")?,
-        S => listed(alloc, "block", "1")?,
-        N2 | T1 => listed(alloc, "space", "1")?,
+        NORTH => listed(alloc, "block", "1 2")?,
+        FIRST_BLOCK => listed(alloc, "space", "1 2")?,
+        SOUTH => listed(alloc, "block", "1")?,
+        SECOND_BLOCK | SOUTH_BLOCK => listed(alloc, "space", "1")?,
         _ => Sequence::new(alloc),
     };
     Ok(Piece {
@@ -110,7 +110,7 @@ fn own(fragment: &mut Fragment, piece: Piece) -> Result<(), TextError> {
 // What agent `a` holds at the start.
 fn agent_a(alloc: Global) -> Result<Fragment, TextError> {
     let mut fragment = Fragment::new(alloc, label("city", CITY)?);
-    for ids in [CITY, N, N1, N1A] {
+    for ids in [CITY, NORTH, FIRST_BLOCK, FIRST_SPACE] {
         own(&mut fragment, full_of(alloc, ids, "no", 0, 0)?)?;
     }
     Ok(fragment)
@@ -119,8 +119,8 @@ fn agent_a(alloc: Global) -> Result<Fragment, TextError> {
 // The same with copies of the second block, stamped 100, and of its space, stamped 200.
 fn with_copies(alloc: Global) -> Result<Fragment, TextError> {
     let mut fragment = agent_a(alloc)?;
-    fragment.take_in(full_of(alloc, N2, "no", 0, 100)?)?;
-    fragment.take_in(full_of(alloc, N2A, "yes", 0, 200)?)?;
+    fragment.take_in(full_of(alloc, SECOND_BLOCK, "no", 0, 100)?)?;
+    fragment.take_in(full_of(alloc, SECOND_SPACE, "yes", 0, 200)?)?;
     Ok(fragment)
 }
 
@@ -129,14 +129,14 @@ fn statuses_by_what_is_held_and_listed(rt: HostRuntime) -> Result<(), Fail> {
     let alloc = rt.alloc();
     let fragment = agent_a(alloc)?;
     for (ids, status) in [
-        (N1A, Some(Status::Owned)),
+        (FIRST_SPACE, Some(Status::Owned)),
         (CITY, Some(Status::Owned)),
-        (N2, Some(Status::Incomplete)),
-        (S, Some(Status::Incomplete)),
+        (SECOND_BLOCK, Some(Status::Incomplete)),
+        (SOUTH, Some(Status::Incomplete)),
         ("o n 1 2", Some(Status::Incomplete)),
         ("o n 1 3", None),
-        (N2A, None),
-        (T1A, None),
+        (SECOND_SPACE, None),
+        (SOUTH_SPACE, None),
         ("p", None),
         ("", None),
     ] {
@@ -144,7 +144,7 @@ fn statuses_by_what_is_held_and_listed(rt: HostRuntime) -> Result<(), Fail> {
     }
     let nothing = Fragment::new(alloc, label("city", CITY)?);
     assert!(rt; nothing.status(&named(alloc, CITY)?) == Some(Status::Incomplete));
-    assert!(rt; nothing.status(&named(alloc, N)?).is_none());
+    assert!(rt; nothing.status(&named(alloc, NORTH)?).is_none());
     Ok(())
 }
 
@@ -152,17 +152,17 @@ fn statuses_by_what_is_held_and_listed(rt: HostRuntime) -> Result<(), Fail> {
 fn usable_from_a_floor_on(rt: HostRuntime) -> Result<(), Fail> {
     let alloc = rt.alloc();
     let mut fragment = with_copies(alloc)?;
-    fragment.take_in(ids_of(alloc, S)?)?;
+    fragment.take_in(ids_of(alloc, SOUTH)?)?;
     for (ids, level, floor, usable) in [
-        (N1A, Level::Full, 1_000_000, true),
-        (N2A, Level::Full, 199, true),
-        (N2A, Level::Full, 200, true),
-        (N2A, Level::Full, 201, false),
-        (N2A, Level::Ids, 201, true),
-        (S, Level::Full, 0, false),
-        (S, Level::Ids, 1_000_000, true),
-        (T1, Level::Ids, 0, false),
-        (T1A, Level::Full, 0, false),
+        (FIRST_SPACE, Level::Full, 1_000_000, true),
+        (SECOND_SPACE, Level::Full, 199, true),
+        (SECOND_SPACE, Level::Full, 200, true),
+        (SECOND_SPACE, Level::Full, 201, false),
+        (SECOND_SPACE, Level::Ids, 201, true),
+        (SOUTH, Level::Full, 0, false),
+        (SOUTH, Level::Ids, 1_000_000, true),
+        (SOUTH_BLOCK, Level::Ids, 0, false),
+        (SOUTH_SPACE, Level::Full, 0, false),
     ] {
         assert!(rt; fragment.usable(&named(alloc, ids)?, level, floor) == usable);
     }
@@ -173,24 +173,28 @@ fn usable_from_a_floor_on(rt: HostRuntime) -> Result<(), Fail> {
 fn pieces_of_what_is_held(rt: HostRuntime) -> Result<(), Fail> {
     let alloc = rt.alloc();
     let mut fragment = with_copies(alloc)?;
-    fragment.take_in(ids_of(alloc, S)?)?;
+    fragment.take_in(ids_of(alloc, SOUTH)?)?;
     // the version and the stamp of the full part at level Full, at the moment 500
-    for (ids, version, stamp) in [(N1A, 0, 500), (N2, 0, 100), (N2A, 0, 200)] {
+    for (ids, version, stamp) in [
+        (FIRST_SPACE, 0, 500),
+        (SECOND_BLOCK, 0, 100),
+        (SECOND_SPACE, 0, 200),
+    ] {
         let piece = fragment.piece(&named(alloc, ids)?, Level::Full, 500)?;
         let full = piece.and_then(|piece| piece.full);
         assert!(rt; full.is_some_and(|full| full.version == version && full.stamp == stamp));
     }
     assert!(rt;
         fragment
-            .piece(&named(alloc, S)?, Level::Full, 500)?
+            .piece(&named(alloc, SOUTH)?, Level::Full, 500)?
             .is_none()
     );
     assert!(rt;
         fragment
-            .piece(&named(alloc, T1)?, Level::Ids, 500)?
+            .piece(&named(alloc, SOUTH_BLOCK)?, Level::Ids, 500)?
             .is_none()
     );
-    let piece = fragment.piece(&named(alloc, N1)?, Level::Ids, 500)?;
+    let piece = fragment.piece(&named(alloc, FIRST_BLOCK)?, Level::Ids, 500)?;
     assert!(rt; piece.is_some_and(|piece| piece.full.is_none() && piece.ids.len() == 2));
     Ok(())
 }
@@ -219,19 +223,19 @@ fn all_usable_pieces_in_the_order_of_names(rt: HostRuntime) -> Result<(), Fail> 
 fn takes_in_what_is_newer(rt: HostRuntime) -> Result<(), Fail> {
     let alloc = rt.alloc();
     let mut fragment = agent_a(alloc)?;
-    assert!(rt; !fragment.take_in(full_of(alloc, N2A, "yes", 0, 10)?)?);
-    assert!(rt; fragment.status(&named(alloc, N2A)?).is_none());
-    assert!(rt; !fragment.take_in(ids_of(alloc, N2)?)?);
-    assert!(rt; fragment.status(&named(alloc, N2)?) == Some(Status::IdComplete));
+    assert!(rt; !fragment.take_in(full_of(alloc, SECOND_SPACE, "yes", 0, 10)?)?);
+    assert!(rt; fragment.status(&named(alloc, SECOND_SPACE)?).is_none());
+    assert!(rt; !fragment.take_in(ids_of(alloc, SECOND_BLOCK)?)?);
+    assert!(rt; fragment.status(&named(alloc, SECOND_BLOCK)?) == Some(Status::IdComplete));
     // what arrives, whether it is placed, and what is held then
     for (ids, version, stamp, placed, held) in [
-        (N2A, 0, 10, true, (0, 10)),
-        (N2A, 0, 10, false, (0, 10)),
-        (N2A, 1, 10, true, (1, 10)),
-        (N2A, 5, 9, false, (1, 10)),
-        (N2A, 0, 11, true, (0, 11)),
-        (N2, 0, 3, true, (0, 3)),
-        (N1A, 9, 99, false, (0, 500)),
+        (SECOND_SPACE, 0, 10, true, (0, 10)),
+        (SECOND_SPACE, 0, 10, false, (0, 10)),
+        (SECOND_SPACE, 1, 10, true, (1, 10)),
+        (SECOND_SPACE, 5, 9, false, (1, 10)),
+        (SECOND_SPACE, 0, 11, true, (0, 11)),
+        (SECOND_BLOCK, 0, 3, true, (0, 3)),
+        (FIRST_SPACE, 9, 99, false, (0, 500)),
     ] {
         let piece = full_of(alloc, ids, "yes", version, stamp)?;
         assert!(rt; fragment.take_in(piece)? == placed);
@@ -249,12 +253,12 @@ fn evicts_copies_alone(rt: HostRuntime) -> Result<(), Fail> {
     let status = Some(Status::Incomplete);
     let bare = Some(Status::IdComplete);
     for (ids, answer) in [
-        (N2, Ok(Status::IdComplete)),
-        (N2, Err(EvictError::NotHeld { status: bare })),
-        (N2A, Ok(Status::Incomplete)),
-        (N2A, Err(EvictError::NotHeld { status })),
-        (N1A, Err(EvictError::IsOwned)),
-        (T1A, Err(EvictError::NotHeld { status: None })),
+        (SECOND_BLOCK, Ok(Status::IdComplete)),
+        (SECOND_BLOCK, Err(EvictError::NotHeld { status: bare })),
+        (SECOND_SPACE, Ok(Status::Incomplete)),
+        (SECOND_SPACE, Err(EvictError::NotHeld { status })),
+        (FIRST_SPACE, Err(EvictError::IsOwned)),
+        (SOUTH_SPACE, Err(EvictError::NotHeld { status: None })),
     ] {
         assert!(rt; fragment.evict(&named(alloc, ids)?) == answer);
     }
@@ -265,9 +269,9 @@ fn evicts_copies_alone(rt: HostRuntime) -> Result<(), Fail> {
 fn owned_renewed_and_released(rt: HostRuntime) -> Result<(), Fail> {
     let alloc = rt.alloc();
     let mut fragment = with_copies(alloc)?;
-    let name = named(alloc, N2A)?;
+    let name = named(alloc, SECOND_SPACE)?;
     assert!(rt; fragment.version(&name).is_none());
-    own(&mut fragment, full_of(alloc, N2A, "yes", 4, 0)?)?;
+    own(&mut fragment, full_of(alloc, SECOND_SPACE, "yes", 4, 0)?)?;
     assert!(rt; fragment.version(&name) == Some(4));
     if let Some(version) = fragment.version(&name) {
         if version < 5 {
@@ -317,7 +321,7 @@ fn what_an_error_prints(rt: HostRuntime) -> Result<(), Fail> {
 #[test]
 fn copies_a_piece(rt: HostRuntime) -> Result<(), Fail> {
     let alloc = rt.alloc();
-    let copy = full_of(alloc, N2, "no", 3, 4)?.copy()?;
+    let copy = full_of(alloc, SECOND_BLOCK, "no", 3, 4)?.copy()?;
     assert!(rt; copy.ids.len() == 1);
     assert!(rt;
         copy.full

@@ -1,4 +1,6 @@
 pub mod Collected
+pub mod Documents
+pub mod Laws
 pub mod Needs
 pub mod Pieces
 pub mod Program

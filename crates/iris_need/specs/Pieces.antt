@@ -52,10 +52,10 @@ view_of pieces name = option_map known_of (piece_at pieces name)
 abbrev pub IsLocalOf : Node → Option Full → Type 0
 IsLocalOf n full = IfSome full (λ f. f.local ≡ local_of n)
 
--- a piece is of a node of the document: it has that node's ids and, where it is full, its local information
-abbrev pub IsPieceOf : Node → Piece → Type 0
-IsPieceOf document piece = (n : Node) × (node_at document piece.name ≡ Some n) × (piece.ids ≡ ids_of n) × IsLocalOf n piece.full
+-- what a piece tells of a name is so of a node of the document: it has that node's ids and, where it is full, its local information
+abbrev pub IsPieceAt : Node → List Label → Piece → Type 0
+IsPieceAt document name piece = (n : Node) × (node_at document name ≡ Some n) × (piece.ids ≡ ids_of n) × IsLocalOf n piece.full
 
 -- the document agrees with the view
 abbrev pub Agrees : Node → Pieces → Type 0
-Agrees document pieces = All (IsPieceOf document) (pieces_in pieces)
+Agrees document pieces = All (λ entry. IsPieceAt document entry.0 entry.1) pieces

@@ -3,11 +3,18 @@
 #![tactic(auto)]
 
 mod evaluate;
+mod laws;
 mod need;
 mod needs;
+mod thin_laws;
 mod view;
 mod walk;
 
 pub use evaluate::{missing, support};
+pub use laws::{
+    answer_is_determined, missing_lies, needs_are_ordered, support_has_full_names,
+    undecided_is_real_work,
+};
 pub use need::{Need, Start, State};
+pub use thin_laws::{full_names_are_meant, missing_exists};
 pub use view::View;

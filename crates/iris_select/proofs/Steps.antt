@@ -12,7 +12,7 @@ use Rattle.iris_tree.specs.Document.{Place, place_of, a_node, names_of, all_name
 use Rattle.iris_tree.specs.NodeCode.{nodes_of-list_of}
 use Rattle.iris_xpath.specs.Thin.{Main}
 use Rattle.iris_xpath.specs.ThinMeaning.{fits, tested_with_a_look}
-use Rattle.iris_select.specs.Walk.{led_to, all_led_to, names_from, looked_at, all_looked_at, IsOnlyFor}
+use Rattle.iris_xpath.specs.Walk.{led_to, all_led_to, names_from, looked_at, all_looked_at, IsOnlyFor}
 
 -- ---- a loop over children
 

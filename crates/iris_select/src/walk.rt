@@ -9,7 +9,7 @@ ghost use Rattle.iris_xpath.specs.ThinMeaning.{holds, fits, tested_with_a_look, 
 ghost use Rattle.iris_xpath.specs.ThinQuery.{is_thin_step, is_thin, thin_step, thin_of};
 ghost use Rattle.iris_xpath.specs.PlaceOrder.{place_cmp};
 ghost use Rattle.iris_select.specs.Places.{edges_of};
-ghost use Rattle.iris_select.specs.Walk.{led_to, all_led_to, names_from, looked_at, all_looked_at, IsOnlyFor};
+ghost use Rattle.iris_xpath.specs.Walk.{led_to, all_led_to, names_from, looked_at, all_looked_at, IsOnlyFor};
 
 use crate::place::Place;
 use iris_tree::{Id, Label, Mem, Name, Sequence, Tree};

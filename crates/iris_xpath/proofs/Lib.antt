@@ -1,3 +1,4 @@
+pub mod Meant
 pub mod Ordered
 pub mod Pieces
 pub mod Predicates

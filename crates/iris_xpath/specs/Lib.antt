@@ -9,3 +9,4 @@ pub mod Syntax
 pub mod Thin
 pub mod ThinMeaning
 pub mod ThinQuery
+pub mod Walk

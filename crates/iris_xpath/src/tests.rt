@@ -99,27 +99,55 @@ fn less(alloc: Global) -> Result<Expression, Fail> {
     })
 }
 
-#[test]
-fn copies_paths(rt: HostRuntime) -> Result<(), Fail> {
-    let alloc = rt.alloc();
-    assert!(rt; is_copied(alloc, &path_of(alloc, Part::Parent)?)?);
-    assert!(rt; is_copied(alloc, &step_of(alloc, Separator::Slash, NameTest::Any)?)?);
-    let kind = NameTest::Kind(Kind::new("city")?);
-    assert!(rt; is_copied(alloc, &step_of(alloc, Separator::DoubleSlash, kind)?)?);
-    let tag = NameTest::Tag(Text::new(alloc, "tag")?);
-    assert!(rt; is_copied(alloc, &step_of(alloc, Separator::Slash, tag)?)?);
-    Ok(())
+fn kind_step(alloc: Global) -> Result<Expression, Fail> {
+    step_of(
+        alloc,
+        Separator::DoubleSlash,
+        NameTest::Kind(Kind::new("city")?),
+    )
+}
+
+fn tag_step(alloc: Global) -> Result<Expression, Fail> {
+    step_of(
+        alloc,
+        Separator::Slash,
+        NameTest::Tag(Text::new(alloc, "tag")?),
+    )
+}
+
+fn or(alloc: Global) -> Result<Expression, Fail> {
+    Ok(Expression::Or(Sequence::from_vec(vec![in alloc; less(alloc)?]?)))
+}
+
+fn and(alloc: Global) -> Result<Expression, Fail> {
+    Ok(Expression::And(Sequence::from_vec(vec![in alloc; less(alloc)?]?)))
+}
+
+fn not(alloc: Global) -> Result<Expression, Fail> {
+    Ok(Expression::Not(Boxed::new(alloc, less(alloc)?)?))
+}
+
+/// One expression of each form.
+fn expression(alloc: Global, form: usize) -> Result<Expression, Fail> {
+    match form {
+        0 => path_of(alloc, Part::Parent),
+        1 => step_of(alloc, Separator::Slash, NameTest::Any),
+        2 => kind_step(alloc),
+        3 => tag_step(alloc),
+        4 => or(alloc),
+        5 => and(alloc),
+        _ => not(alloc),
+    }
 }
 
 #[test]
-fn copies_conditions(rt: HostRuntime) -> Result<(), Fail> {
+fn copies_each_form(rt: HostRuntime) -> Result<(), Fail> {
     let alloc = rt.alloc();
-    let or = Expression::Or(Sequence::from_vec(vec![in alloc; less(alloc)?]?));
-    assert!(rt; or.as_equality().is_none());
-    assert!(rt; is_copied(alloc, &or)?);
-    let and = Expression::And(Sequence::from_vec(vec![in alloc; less(alloc)?]?));
-    assert!(rt; is_copied(alloc, &and)?);
-    assert!(rt; is_copied(alloc, &Expression::Not(Boxed::new(alloc, less(alloc)?)?))?);
+    for form in 0..7 {
+        let expression = expression(alloc, form)?;
+        assert!(rt; expression.as_equality().is_none(), "at {form}");
+        assert!(rt; is_copied(alloc, &expression)?, "at {form}");
+    }
     Ok(())
 }
 

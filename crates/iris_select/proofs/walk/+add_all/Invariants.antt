@@ -2,7 +2,7 @@ use Rattle.std.proofs.Common.{◌≡◌, ◌++◌, map, drop}
 use Rattle.iris_tree.specs.Universe.{nodes_of}
 use Rattle.iris_tree.specs.Document.{all_names_of}
 use Rattle.iris_tree.specs.NodeCode.{size_of}
-use Rattle.iris_select.specs.Walk.{names_from}
+use Rattle.iris_xpath.specs.Walk.{names_from}
 use Rattle.iris_select.proofs.walk.+add_all.Given as goal
 
 abbrev pub decreases-add_all : goal.decreases-add_all

@@ -6,7 +6,7 @@ use Rattle.iris_tree.specs.Document.{place_of}
 use Rattle.iris_xpath.specs.ThinQuery.{thin_step, thin_of}
 use Rattle.iris_select.specs.declared.walk.Evaluation.{Evaluation}
 use Rattle.iris_select.specs.Places.{edges_of}
-use Rattle.iris_select.specs.Walk.{all_led_to, all_looked_at}
+use Rattle.iris_xpath.specs.Walk.{all_led_to, all_looked_at}
 use Rattle.iris_select.proofs.Steps.{led_at_child, looked_at_child, led_more, looked_more, none_left, led_through, looked_through}
 use Rattle.iris_select.proofs.walk.+walking.Goals as goal
 use Rattle.iris_select.proofs.walk.+walking.Goals.{visit-then-tested+in_ok-copy-2+in_ok-push-3, visit-else-tested}

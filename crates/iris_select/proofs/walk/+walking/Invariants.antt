@@ -3,7 +3,7 @@ use Rattle.iris_tree.specs.Universe.{nodes_of, children_of}
 use Rattle.iris_tree.specs.Document.{place_of}
 use Rattle.iris_xpath.specs.ThinQuery.{thin_step, thin_of}
 use Rattle.iris_select.specs.Places.{edges_of}
-use Rattle.iris_select.specs.Walk.{all_led_to, all_looked_at}
+use Rattle.iris_xpath.specs.Walk.{all_led_to, all_looked_at}
 use Rattle.iris_select.proofs.walk.+walking.Given as goal
 
 abbrev pub decreases-visit : goal.decreases-visit

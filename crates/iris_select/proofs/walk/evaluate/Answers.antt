@@ -5,7 +5,7 @@ use Rattle.iris_xpath.specs.PlaceOrder.{place_cmp}
 use Rattle.iris_xpath.specs.ThinQuery.{thin_of}
 use Rattle.iris_xpath.proofs.Ordered.{selected_rise}
 use Rattle.iris_select.specs.Places.{edges_of}
-use Rattle.iris_select.proofs.Meant.{places_found, names_found}
+use Rattle.iris_xpath.proofs.Meant.{places_found, names_found}
 use Rattle.iris_select.proofs.walk.evaluate.Goals as goal
 
 pub returns-clause-places : goal.returns-clause-places

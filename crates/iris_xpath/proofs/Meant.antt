@@ -19,7 +19,7 @@ use Rattle.iris_xpath.specs.ThinQuery.{is_thin, thin_of}
 use Rattle.iris_xpath.specs.ThinMeaning.{fits, tested_with_a_look, selected, full_names}
 use Rattle.iris_xpath.proofs.Reached.{Parts, is_end, is_edge, reached, looked, plain_never, selected_is, full_names_are}
 use Rattle.iris_xpath.proofs.ThinQuery.{selected_thin}
-use Rattle.iris_select.specs.Walk.{led_to, all_led_to, looked_at, all_looked_at}
+use Rattle.iris_xpath.specs.Walk.{led_to, all_led_to, looked_at, all_looked_at}
 
 -- ---- lists
 
@@ -69,7 +69,7 @@ found_again : (x y : Label) (n : Node) (o : Option Node) → label_cmp x y ≡ L
 found_again x y n o h = rw (labels_ties x y ∙ ap is_eq h) refl
 
 -- the label of each of these leads to it among those
-abbrev Finds : List Node → Nodes → Type 0
+abbrev pub Finds : List Node → Nodes → Type 0
 Finds ms no_nodes = Unit {0}
 Finds ms (nodes n ns) = (child_of (label_of n) ms ≡ Some n) × Finds ms ns
 
@@ -77,7 +77,7 @@ finds_later : (n : Node) (ms : List Node) (ns : Nodes) → AllAfter (label_of n)
 finds_later n ms no_nodes after h = tt
 finds_later n ms (nodes k ks) after h = (found_again (label_of n) (label_of k) n (child_of (label_of k) ms) after.0 ∙ h.0, finds_later n ms ks after.1 h.1)
 
-finds_all : (ns : Nodes) → AreOrdered ns → Finds (list_of ns) ns
+pub finds_all : (ns : Nodes) → AreOrdered ns → Finds (list_of ns) ns
 finds_all no_nodes ordered = tt
 finds_all (nodes n ns) ordered = (rw (labels_equiv.refl (label_of n)) refl, finds_later n (list_of ns) ns ordered.1 (finds_all ns ordered.2))
 
@@ -173,7 +173,7 @@ map_id [] = refl
 map_id (x ∷ xs) = ap (λ ys. x ∷ ys) (map_id xs)
 
 -- the walk finds the selected places
-led_is : (document : Node) → IsOrdered document → (s : Main) (ss : List Main) → map place_of (led_to [] document s ss) ≡ selected document (s ∷ ss)
+pub led_is : (document : Node) → IsOrdered document → (s : Main) (ss : List Main) → map place_of (led_to [] document s ss) ≡ selected document (s ∷ ss)
 led_is document ordered s ss =
     led_node [] document ordered (part_at_place document) (sees_top document) s ss ∙ map_id _ ∙ sym (selected_is document (s ∷ ss))
 
@@ -186,7 +186,7 @@ places_found document query s ss above new old ordered thin is top start h =
 
 -- ---- the names
 
-under_names : (above : List Label) (l : Label) (ms : List (List Label)) → map (λ m. (above ++ l ∷ []) ++ m) ms ≡ map (λ m. above ++ m) (map (λ m. l ∷ m) ms)
+pub under_names : (above : List Label) (l : Label) (ms : List (List Label)) → map (λ m. (above ++ l ∷ []) ++ m) ms ≡ map (λ m. above ++ m) (map (λ m. l ∷ m) ms)
 under_names above l ms = map_same _ _ (λ (m : List Label). append_assoc above (l ∷ []) m) ms ∙ sym (map_map (λ m. above ++ m) (λ m. l ∷ m) ms)
 
 -- the names below a node have a label
@@ -269,7 +269,7 @@ mutual
       ∙ map-append (λ m. above ++ m) (filter (λ name. looked (s ∷ ss) at (place_of name)) (names_of n)) (filter (λ name. looked (s ∷ ss) at (place_of name)) (all_names_of ns)))
 
 -- the walk looks into the nodes that an evaluation looks into
-looked_is : (document : Node) → IsOrdered document → (query : Syntax) (s : Main) (ss : List Main) → thin_of query ≡ s ∷ ss → looked_at [] document s ss ≡ full_names document query
+pub looked_is : (document : Node) → IsOrdered document → (query : Syntax) (s : Main) (ss : List Main) → thin_of query ≡ s ∷ ss → looked_at [] document s ss ≡ full_names document query
 looked_is document ordered query s ss is =
     look_node [] document ordered (part_at_place document) (sees_top document) s ss ∙ map_id _
     ∙ ap (λ (q : List Main). filter (λ name. looked q (part_at_place document) (place_of name)) (names_of document)) (sym is) ∙ sym (full_names_are document query)

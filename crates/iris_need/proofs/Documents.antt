@@ -1,0 +1,137 @@
+-- Where the nodes of a document stand: by their names, with the levels that their names leave below them.
+use Rattle.std.proofs.Common.{◌≡◌, ℕ, zero, suc, ◌+◌, ◌≤◌, Bool, true, false, cond, List, [], ◌∷◌, ◌++◌, length, map, refl, ap, ◌∙◌, arith, Option, Some, None, option_and_then}
+use Rattle.std.specs.List.{AllByRecursion}
+use Rattle.std.specs.Option.{option_map_or}
+use Rattle.std.proofs.lemmas.List.{length-append}
+use Rattle.std.proofs.lemmas.List.Elements.{recursion_from_All}
+use Rattle.iris_base.specs.declared.name.Label.{Label}
+use Rattle.iris_base.specs.NameOrder.{label_eq, labels_equiv}
+use Rattle.iris_tree.specs.declared.local.Local.{Local}
+use Rattle.iris_tree.specs.Universe.{Node, node, Nodes, no_nodes, nodes, label_of, local_of, children_of, ids_of, child_of, part_at, node_at, IsOrdered, AreOrdered}
+use Rattle.iris_tree.specs.Document.{Part, a_node, place_of, name_of, part_at_place, below_node, names_of, all_names_of}
+use Rattle.iris_json.specs.declared.item.Element.TheVariants as elements
+use Rattle.iris_fragment.proofs.Cities.{node_last}
+use Rattle.iris_xpath.proofs.Meant.{Finds, finds_all}
+use Rattle.iris_need.specs.Documents.{IsDocument, item_of, item_in}
+use Rattle.iris_need.specs.Program.{room}
+use Rattle.iris_need.specs.Run.{ids_in, local_in, no_local}
+
+-- ---- levels
+
+-- a node with at most that many levels below it
+abbrev mutual
+  pub Shallow : Node → ℕ → Type 0
+  Shallow (node l local below) levels = AllShallow below levels
+
+  pub AllShallow : Nodes → ℕ → Type 0
+  AllShallow no_nodes levels = Unit {0}
+  AllShallow (nodes n ns) zero = ⊥
+  AllShallow (nodes n ns) (suc levels) = Shallow n levels × AllShallow ns (suc levels)
+
+-- no name has more labels than that
+abbrev NoLonger : ℕ → List (List Label) → Type 0
+NoLonger most names = AllByRecursion (λ name. length name ≤ most) names
+
+one_shorter : (most : ℕ) (l : Label) (names : List (List Label)) → NoLonger (suc most) (map (λ name. l ∷ name) names) → NoLonger most names
+one_shorter most l [] h = tt
+one_shorter most l (name ∷ names) h = (omega (arith, h.0), one_shorter most l names h.1)
+
+first_names : (most : ℕ) (names more : List (List Label)) → NoLonger most (names ++ more) → NoLonger most names
+first_names most [] more h = tt
+first_names most (name ∷ names) more h = (h.0, first_names most names more h.1)
+
+later_names : (most : ℕ) (names more : List (List Label)) → NoLonger most (names ++ more) → NoLonger most more
+later_names most [] more h = h
+later_names most (name ∷ names) more h = later_names most names more h.1
+
+some_label : (n : Node) (more : List (List Label)) → NoLonger zero (names_of n ++ more) → ⊥
+some_label (node l local below) more h = omega (arith, h.0)
+
+mutual
+  shallow : (n : Node) (levels : ℕ) → NoLonger (suc levels) (names_of n) → Shallow n levels
+  shallow (node l local below) levels h = all_shallow below levels (one_shorter levels l (all_names_of below) h.1)
+
+  all_shallow : (ns : Nodes) (levels : ℕ) → NoLonger levels (all_names_of ns) → AllShallow ns levels
+  all_shallow no_nodes levels h = tt
+  all_shallow (nodes n ns) zero h = some_label n (all_names_of ns) h
+  all_shallow (nodes n ns) (suc levels) h = (shallow n levels (first_names (suc levels) (names_of n) (all_names_of ns) h), all_shallow ns (suc levels) (later_names (suc levels) (names_of n) (all_names_of ns) h))
+
+-- ---- nodes at their names
+
+-- the node stands at the name, which leaves that many levels below it
+pub record Stands (document : Node) (name : List Label) (n : Node) (levels : ℕ) : Type 0 where
+  pub there : node_at document name ≡ Some n
+  pub ordered : IsOrdered n
+  pub bounded : Shallow n levels
+  pub levels_left : levels + length name ≡ 16
+
+-- so do these children of the node at the name
+abbrev pub AllStand : Node → List Label → Nodes → ℕ → Type 0
+AllStand document name no_nodes levels = Unit {0}
+AllStand document name (nodes n ns) zero = ⊥
+AllStand document name (nodes n ns) (suc levels) = Stands document (name ++ label_of n ∷ []) n levels × AllStand document name ns (suc levels)
+
+child_at : (document : Node) (name : List Label) (l : Label) (n : Node) → node_at document name ≡ Some n → node_at document (name ++ l ∷ []) ≡ child_of l (children_of n)
+child_at document [] l n h = absurd (cc)
+child_at document (a ∷ name) l n h = node_last document a name l ∙ ap (option_and_then (λ p. child_of l (children_of p))) h
+
+one_level : (levels : ℕ) (name : List Label) (l : Label) → suc levels + length name ≡ 16 → levels + length (name ++ l ∷ []) ≡ 16
+one_level levels name l h = omega (arith, length-append name (l ∷ []))
+
+below_stand : (document : Node) (name : List Label) (n : Node) (ns : Nodes) (levels : ℕ) → node_at document name ≡ Some n → Finds (children_of n) ns → AreOrdered ns → AllShallow ns levels → levels + length name ≡ 16 → AllStand document name ns levels
+below_stand document name n no_nodes levels there found ordered bounded left = tt
+below_stand document name n (nodes c cs) zero there found ordered bounded left = absurd bounded
+below_stand document name n (nodes c cs) (suc levels) there found ordered bounded left = (
+  record { there = child_at document name (label_of c) n there ∙ found.0; ordered = ordered.0; bounded = bounded.0; levels_left = one_level levels name (label_of c) left },
+  below_stand document name n cs (suc levels) there found.1 ordered.2 bounded.1 left,
+)
+
+-- the children of a node that stands at a name
+pub children_stand : (document : Node) (name : List Label) (l : Label) (local : Local) (below : Nodes) (levels : ℕ) → Stands document name (node l local below) levels → AllStand document name below levels
+children_stand document name l local below levels h = below_stand document name (node l local below) below levels h.there (finds_all below h.ordered) h.ordered h.bounded h.levels_left
+
+top_at : (n : Node) → node_at n (label_of n ∷ []) ≡ Some n
+top_at n = ap (λ b. cond b (Some n) None) (labels_equiv.refl (label_of n))
+
+-- the top node
+pub top_stands : (document : Node) → IsDocument document → Stands document (label_of document ∷ []) document 15
+top_stands document h = record { there = top_at document; ordered = h.0; bounded = shallow document 15 (recursion_from_All (λ name. length name ≤ 16) (names_of document) h.1); levels_left = refl }
+
+-- ---- what is seen of a node
+
+pub room_is : (document : Node) (name : List Label) (n : Node) (levels : ℕ) → Stands document name n levels → room name ≡ levels
+unfolding room
+room_is document name n levels h = let left = h.levels_left in omega (arith)
+
+pub ids_are : (document : Node) (name : List Label) (n : Node) → node_at document name ≡ Some n → ids_in document name ≡ ids_of n
+ids_are document name n h = ap (λ (o : Option Node). option_map_or ids_of o []) h
+
+pub local_is : (document : Node) (name : List Label) (n : Node) → node_at document name ≡ Some n → local_in document name ≡ local_of n
+local_is document name n h = ap (λ (o : Option Node). option_map_or local_of o no_local) h
+
+-- ---- the item of a node
+
+found_then : {A B C : Type 0} (f : A → Option B) (g : A → Option C) (h : C → Option B) (o : Option A) → ((a : A) → f a ≡ option_and_then h (g a)) → option_and_then f o ≡ option_and_then h (option_and_then g o)
+found_then f g h None same = refl
+found_then f g h (Some a) same = same a
+
+below_is : (name : List Label) (n : Node) → below_node n (place_of name) ≡ option_and_then (λ m. Some (a_node m)) (part_at n name)
+below_is [] n = refl
+below_is (l ∷ name) n = found_then (λ child. below_node child (place_of name)) (λ child. part_at child name) (λ m. Some (a_node m)) (child_of l (children_of n)) (below_is name)
+
+top_part : (b : Bool) (o : Option Part) (p : Option Node) → o ≡ option_and_then (λ m. Some (a_node m)) p → cond b o None ≡ option_and_then (λ m. Some (a_node m)) (cond b p None)
+top_part true o p h = h
+top_part false o p h = refl
+
+part_is : (document : Node) (name : List Label) (n : Node) → node_at document name ≡ Some n → part_at_place document (place_of name) ≡ Some (a_node n)
+part_is document [] n h = absurd (cc)
+part_is document (l ∷ name) n h =
+    top_part (label_eq (label_of document) l) (below_node document (place_of name)) (part_at document name) (below_is name document) ∙ ap (option_and_then (λ m. Some (a_node m))) h
+
+name_is : (name : List Label) → name_of (place_of name) ≡ name
+name_is [] = refl
+name_is (l ∷ name) = ap (λ ls. l ∷ ls) (name_is name)
+
+pub item_is : (document : Node) (name : List Label) (n : Node) → node_at document name ≡ Some n → item_in document (place_of name) ≡ Some (record { at = name; is = elements.Node n })
+item_is document name n h =
+    ap (option_and_then (item_of (name_of (place_of name)))) (part_is document name n h) ∙ ap (λ (at : List Label). Some (record { at = at; is = elements.Node n })) (name_is name)

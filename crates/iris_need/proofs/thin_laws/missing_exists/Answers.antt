@@ -1,0 +1,5 @@
+use Rattle.iris_need.proofs.AtNodes.{missing_exists}
+use Rattle.iris_need.proofs.thin_laws.missing_exists.Goals as goal
+
+pub returns : goal.returns
+returns c = record { exists = missing_exists }
