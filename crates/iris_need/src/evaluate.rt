@@ -229,7 +229,7 @@ impl<'a> Walk<'a> {
 }
 
 // The steps of a query. They are counted in 32 bits, and no memory holds more.
-fn steps_of(query: &Query) -> Mem<&[Step<Expression>]>
+pub(crate) fn steps_of(query: &Query) -> Mem<&[Step<Expression>]>
     ensures value { IfOk result (λ steps. steps.now ≡ query.now) }
     ensures few { IfOk result (λ steps. length steps.now < 2 ^ 32) }
     ensures thin { is_thin query.now ≡ true }

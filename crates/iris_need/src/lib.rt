@@ -2,6 +2,7 @@
 //! lacks nothing.
 #![tactic(auto)]
 
+mod answer;
 mod evaluate;
 mod laws;
 mod need;
@@ -10,6 +11,7 @@ mod thin_laws;
 mod view;
 mod walk;
 
+pub use answer::answer_of;
 pub use evaluate::{missing, support};
 pub use laws::{
     answer_is_determined, missing_lies, needs_are_ordered, support_has_full_names,

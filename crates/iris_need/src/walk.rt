@@ -59,7 +59,7 @@ fn is_id(attribute: &str) -> bool
 }
 
 // Whether a label is of the kind to which a step goes.
-fn is_of_kind(step: &Step<Expression>, label: &Label) -> bool
+pub(crate) fn is_of_kind(step: &Step<Expression>, label: &Label) -> bool
     requires { is_thin_step step.now ≡ true }
     ensures { result ≡ bytes_eq label.now.kind (thin.thin_step step.now).kind }
 {
