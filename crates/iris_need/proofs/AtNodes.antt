@@ -16,9 +16,10 @@ use Rattle.iris_need.specs.Pieces.{Pieces, Agrees}
 use Rattle.iris_need.specs.Program.{each, gather, where_so, and_so, is_id, subtree}
 use Rattle.iris_need.specs.Run.{Run, give, see_ids, see_full, both, next, run, after, all_of, eval, ids_in, local_in}
 use Rattle.iris_need.proofs.Documents.{Stands, AllStand, children_stand, top_stands, room_is, ids_are}
-use Rattle.iris_need.proofs.Missing.{real_work}
+use Rattle.iris_need.proofs.Unmet.{real_work}
 use Rattle.iris_need.proofs.Runs.{evals}
-use Rattle.iris_need.proofs.Thin.{has_text, all_have_text, thin_tested, thin_goes, thin_from, thin_program_is}
+use Rattle.iris_need.specs.ThinProgram.{has_text, all_have_text, thin_tested, thin_goes, thin_from}
+use Rattle.iris_need.proofs.Thin.{thin_program_is}
 
 -- ---- programs that look at nodes alone
 

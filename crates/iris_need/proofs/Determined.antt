@@ -7,7 +7,7 @@ use Rattle.iris_xpath.specs.ThinQuery.{is_thin}
 use Rattle.iris_need.specs.Documents.{IsDocument, items_in}
 use Rattle.iris_need.specs.Needs.{evaluation, missing_of, from_document}
 use Rattle.iris_need.specs.Pieces.{Pieces, view_of, Agrees}
-use Rattle.iris_need.proofs.Missing.{determined_from}
+use Rattle.iris_need.proofs.Unmet.{determined_from}
 use Rattle.iris_need.proofs.Selected.{eval_is}
 
 pub determines : (query : Syntax) (view : Pieces) (document : Node) → is_thin query ≡ true → IsDocument document → Agrees document view → missing_of query (from_document (label_of document)) view ≡ []

@@ -29,7 +29,8 @@ use Rattle.iris_need.proofs.Apart.{full_of, AllNamed, named_append, Block, Block
 use Rattle.iris_need.proofs.AtNodes.{next_log}
 use Rattle.iris_need.proofs.Documents.{Stands, AllStand, children_stand, top_stands, room_is, ids_are}
 use Rattle.iris_need.proofs.Selected.{text_is, texts_are}
-use Rattle.iris_need.proofs.Thin.{has_text, all_have_text, thin_tested, thin_goes, thin_from, thin_program_is}
+use Rattle.iris_need.specs.ThinProgram.{has_text, all_have_text, thin_tested, thin_goes, thin_from}
+use Rattle.iris_need.proofs.Thin.{thin_program_is}
 
 -- what a program looks at over all of a document
 abbrev log : Node → {A : Type 0} → Run A → List Need

@@ -27,7 +27,8 @@ use Rattle.iris_need.specs.Needs.{from_document}
 use Rattle.iris_need.specs.Program.{each, gather, where_so, and_so, is_id, subtree, program}
 use Rattle.iris_need.specs.Run.{Run, eval, ids_in}
 use Rattle.iris_need.proofs.Documents.{Stands, AllStand, children_stand, top_stands, room_is, ids_are, local_is, item_is}
-use Rattle.iris_need.proofs.Thin.{has_text, all_have_text, thin_tested, thin_goes, thin_from, thin_program_is}
+use Rattle.iris_need.specs.ThinProgram.{has_text, all_have_text, thin_tested, thin_goes, thin_from}
+use Rattle.iris_need.proofs.Thin.{thin_program_is}
 
 -- ---- words of programs
 

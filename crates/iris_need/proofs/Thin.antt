@@ -8,7 +8,6 @@ use Rattle.iris_base.specs.declared.name.Label.{Label}
 use Rattle.iris_base.specs.NameOrder.{names_equiv}
 use Rattle.iris_tree.specs.Attrs.{value_of}
 use Rattle.iris_tree.specs.Universe.{Node}
-use Rattle.iris_json.specs.declared.item.Item.{Item}
 use Rattle.iris_xpath.specs.declared.expression.Comparison.TheVariants.{Equal}
 use Rattle.iris_xpath.specs.declared.expression.NameTest.TheVariants.{Kind}
 use Rattle.iris_xpath.specs.declared.expression.Separator.TheVariants.{Slash}
@@ -23,7 +22,8 @@ use Rattle.iris_need.specs.declared.need.State.{State}
 use Rattle.iris_need.specs.declared.need.State.TheVariants as states
 use Rattle.iris_need.specs.Needs.{from_document}
 use Rattle.iris_need.specs.Program.{gather, join, where_so, and_so, Spot, node_spot, document_spot, room, Marks, from_node, is_id, own_attribute, holds, all_hold, some_end, found, tested_at, tested, goes, go_at, seek_at, test_at, enter, program}
-use Rattle.iris_need.specs.Run.{Run, give, see_ids, see_full, both, next, Out, View, Seen, ids_known, full_known, after, after_ids, after_full, pair_value, run, eval}
+use Rattle.iris_need.specs.ThinProgram.{has_text, all_have_text, thin_tested, thin_step, thin_goes, thin_from, thin_seeks, thin_goes_on, thin_tests, thin_enter}
+use Rattle.iris_need.specs.Run.{Run, give, see_ids, both, next, Out, View, Seen, ids_known, full_known, after, after_ids, after_full, pair_value, run, eval}
 
 -- ---- programs that are the same to whoever runs them
 
@@ -88,16 +88,6 @@ join_nothing r = record { runs = λ w. with_nothing (run w r).log (run w r).valu
 
 -- ---- the equalities of a step
 
--- whether an attribute of a node has that text: `@id` is told by the label
-abbrev pub has_text : Bool → List State → Equals → List Label → Label → Run Bool
-has_text true marks e name l = give (bytes_eq l.id e.value)
-has_text false marks e name l = see_full name marks (λ ids local. give (is_text (value_of local.attrs e.name) e.value))
-
--- one equality after another, up to the first that doesn't hold
-abbrev pub all_have_text : List State → List Equals → List Label → Label → Run Bool
-all_have_text marks [] name l = give true
-all_have_text marks (e ∷ es) name l = next (has_text (is_id e.name) marks e name l) (λ b. and_so b (all_have_text marks es name l))
-
 abbrev some_equal : List Value → List Value → Bool
 some_equal us vs = list_any (λ u. list_any (compare Equal u) vs) us
 
@@ -151,24 +141,6 @@ all_hold_is top marks (e ∷ es) name l =
 
 -- ---- steps
 
--- where the equalities of a step hold at a node
-abbrev pub thin_tested : {A : Type 0} → ℕ → Main → List Label → Label → Run (List A) → Run (List A)
-thin_tested i m name l r = next (all_have_text (states.Test i ∷ []) m.predicates name l) (λ b. where_so b r)
-
--- a step to the children of a node: each that is of the kind is tested, and where it passes a further program is run at it
-abbrev pub thin_step : {A : Type 0} → List State → ℕ → Main → (List Label → Label → Run (List A)) → List Label → Run (List A)
-thin_step marks i m further name = see_ids name marks (gather (λ child. where_so (bytes_eq child.kind m.kind) (thin_tested i m (name ++ child ∷ []) child (further (name ++ child ∷ []) child))))
-
--- a step and all further ones; after the last one the node is selected
-abbrev pub thin_goes : ℕ → List Main → List Label → Label → Run (List Item)
-thin_goes i [] name l = found (node_spot name l)
-thin_goes i (m ∷ ms) name l = thin_step (states.At i ∷ []) i m (thin_goes (i + 1) ms) name
-
--- from the document, whose one child is the top node: a step and all further ones
-abbrev pub thin_from : Label → ℕ → List Main → Run (List Item)
-thin_from top i [] = give []
-thin_from top i (m ∷ ms) = where_so (bytes_eq top.kind m.kind) (thin_tested i m (top ∷ []) top (thin_goes (i + 1) ms (top ∷ []) top))
-
 -- the steps of a thin query as its program has them
 abbrev pub thin_steps : List Main → List MainStep
 thin_steps ms = map main_of (map whole_step ms)
@@ -208,7 +180,7 @@ goes_is top i (m ∷ ms) name l =
 
 -- ---- the whole program
 
-from_top : (top : Label) (i : ℕ) (ms : List Main) → Same (go_at top i (thin_steps ms) document_spot) (thin_from top i ms)
+pub from_top : (top : Label) (i : ℕ) (ms : List Main) → Same (go_at top i (thin_steps ms) document_spot) (thin_from top i ms)
 from_top top i [] = same (give [])
 from_top top i (m ∷ ms) =
     let at = node_spot (top ∷ []) top in
@@ -226,26 +198,6 @@ pub thin_program_is : (query : Syntax) (top : Label) → is_thin query ≡ true 
 thin_program_is query top h = subst (λ (q : Syntax). Same (program q (from_document top)) (thin_from top 0 (thin_of query))) (sym (thin_is query h)) (program_is top (thin_of query))
 
 -- ---- starts at a node
-
--- a step that goes on from a node with other states
-abbrev pub thin_seeks : ℕ → List Main → List Label → Label → Run (List Item)
-thin_seeks i [] name l = give []
-thin_seeks i (m ∷ ms) name l = thin_step (states.Seek i ∷ []) i m (thin_goes (i + 1) ms) name
-
-abbrev pub thin_goes_on : ℕ → List Main → List Label → Label → Run (List Item)
-thin_goes_on i [] name l = give []
-thin_goes_on i (m ∷ ms) name l = thin_goes i (m ∷ ms) name l
-
-abbrev pub thin_tests : ℕ → List Main → List Label → Label → Run (List Item)
-thin_tests i [] name l = give []
-thin_tests i (m ∷ ms) name l = thin_tested i m name l (thin_goes (i + 1) ms name l)
-
--- what a state does at a node
-abbrev pub thin_enter : List Main → List Label → Label → State → Run (List Item)
-thin_enter q name l (states.At i) = thin_goes_on i (drop i q) name l
-thin_enter q name l (states.Seek i) = thin_seeks i (drop i q) name l
-thin_enter q name l (states.Test i) = thin_tests i (drop i q) name l
-thin_enter q name l states.Whole = found (node_spot name l)
 
 goes_on_is : (top : Label) (i : ℕ) (ms : List Main) (name : List Label) (l : Label) → Same (go_at top i (thin_steps ms) (node_spot name l)) (thin_goes_on i ms name l)
 goes_on_is top i [] name l = same (give [])

@@ -1,6 +1,9 @@
+pub mod Collected
 pub mod Documents
 pub mod Laws
 pub mod Needs
 pub mod Pieces
 pub mod Program
 pub mod Run
+pub mod Starts
+pub mod ThinProgram

@@ -2,11 +2,15 @@
 //! lacks nothing.
 #![tactic(auto)]
 
+mod evaluate;
 mod laws;
 mod need;
+mod needs;
 mod thin_laws;
 mod view;
+mod walk;
 
+pub use evaluate::{missing, support};
 pub use laws::{
     answer_is_determined, missing_lies, needs_are_ordered, support_has_full_names,
     undecided_is_real_work,

@@ -1,7 +1,10 @@
 //! What is asked of one node, and where an evaluation begins.
+ghost use Rattle.std.specs.Prelude.{◌≡◌, IfOk};
+ghost use Rattle.iris_need.specs.Needs.{from_document};
 
-use iris_base::{Label, Name, Sequence};
+use iris_base::{Label, Mem, Name, Sequence};
 use iris_fragment::Level;
+use std::alloc::Global;
 
 /// How an evaluation stands at a node. Steps are numbered from 0. States are ordered as they stand here,
 /// and then by their numbers.
@@ -35,4 +38,53 @@ pub struct Start {
     /// The level at which the node of the name is looked at in any case; the document never is.
     pub level: Level,
     pub states: Sequence<State>,
+}
+
+// A copy of a list of states, by the same allocator.
+fn copy_states(states: &Sequence<State>) -> Mem<Sequence<State>>
+    ensures { IfOk result (λ copy. copy ≡ states.now) }
+{
+    let copy = Vec::from_slice(states.allocator(), states.as_slice())?;
+    Ok(Sequence::from_vec(copy))
+}
+
+impl Need {
+    /// A copy, by the same allocator.
+    pub fn copy(&self) -> Mem<Need>
+        ensures { IfOk result (λ copy. copy ≡ self.now) }
+    {
+        Ok(Need {
+            name: self.name.copy()?,
+            level: self.level,
+            states: copy_states(&self.states)?,
+        })
+    }
+}
+
+impl Start {
+    /// Where a client's query starts, of a city whose top node has that label.
+    pub fn from_document(alloc: Global, top: Label) -> Mem<Start>
+        ensures { IfOk result (λ start. start ≡ from_document top) }
+    {
+        let mut states = Sequence::new(alloc);
+        states.push(State::At(0))?;
+        Ok(Start {
+            top,
+            name: Name::document(alloc),
+            level: Level::Ids,
+            states,
+        })
+    }
+
+    /// A copy, by the same allocator.
+    pub fn copy(&self) -> Mem<Start>
+        ensures { IfOk result (λ copy. copy ≡ self.now) }
+    {
+        Ok(Start {
+            top: self.top,
+            name: self.name.copy()?,
+            level: self.level,
+            states: copy_states(&self.states)?,
+        })
+    }
 }

@@ -1,7 +1,12 @@
 //! Views: what is known of a document.
+ghost use Rattle.std.specs.Prelude.{◌≡◌, [], Some, None, IfOk, OnOk, OnErr, option_copied, MatchOption};
+ghost use Rattle.iris_need.specs.Pieces.{piece_at, pieces_in, first_full, with_piece};
+ghost use Rattle.iris_need.specs.Collected.{full_at};
 
-use iris_base::Name;
-use iris_fragment::Piece;
+use iris_base::{Label, Mem, Name};
+use iris_fragment::{Full, Piece};
+use iris_tree::Local;
+use std::alloc::Global;
 use std::collections::BTreeMap;
 use std::marker::Model;
 
@@ -9,6 +14,7 @@ use std::marker::Model;
 /// the first that has one.
 #[derive(Debug, Drop)]
 pub struct View {
+    alloc: Global,
     map: BTreeMap<Name, Piece>,
 }
 
@@ -25,4 +31,80 @@ impl Model for View {
     ghost view = { λ v. v.map.entries };
 
     ghost invariant = { λ v. AreNamed v.map.entries };
+}
+
+// Puts a full part where there is none.
+fn keep_first(held: &mut Option<Full>, later: Option<Full>)
+    ensures { held.new ≡ first_full held.old later }
+{
+    if held.is_none() {
+        *held = later;
+    }
+}
+
+impl View {
+    /// A view of nothing. It takes no memory.
+    pub fn new(alloc: Global) -> View
+        ensures { result ≡ [] }
+    {
+        View {
+            alloc,
+            map: BTreeMap::new(alloc),
+        }
+    }
+
+    /// The piece of that name.
+    pub fn get(&self, name: &Name) -> Option<&Piece>
+        ensures { option_copied result ≡ piece_at self.now name.now }
+    {
+        self.map.get(name)
+    }
+
+    // The labels of the children and the local information of the node of that name, where both are known.
+    pub(crate) fn full(&self, name: &Name) -> Option<(&[Label], &Local)>
+        ensures { MatchOption result (full_at self.now name.now ≡ None) (λ r. full_at self.now name.now ≡ Some (record { ids = r.0.now; local = r.1.now })) }
+    {
+        let piece = self.get(name)?;
+        let full = piece.full.as_ref()?;
+        Some((piece.ids.as_slice(), &full.local))
+    }
+
+    /// Takes in a piece. Where there is no memory the view stays as it was.
+    pub fn add(&mut self, piece: Piece) -> Mem<()>
+        ensures ok { OnOk result (self.new ≡ with_piece self.old piece) }
+        ensures err { OnErr result (self.new ≡ self.old) }
+    {
+        let Some(held) = self.map.get_mut(&piece.name) else {
+            let name = piece.name.copy()?;
+            self.map.insert(name, piece)?;
+            return Ok(());
+        };
+        keep_first(&mut held.full, piece.full);
+        Ok(())
+    }
+
+    /// Copies of all pieces, in the order of their names.
+    pub fn pieces(&self) -> Mem<Vec<Piece>>
+        ensures { IfOk result (λ pieces. pieces.items ≡ pieces_in self.now) }
+    {
+        let mut pieces = Vec::with_capacity(self.alloc, self.map.len())?;
+        for piece in self.map.values() {
+            pieces.push(piece.copy()?)?;
+        }
+        Ok(pieces)
+    }
+
+    /// A copy, by the same allocator.
+    pub fn copy(&self) -> Mem<View>
+        ensures { IfOk result (λ copy. copy ≡ self.now) }
+    {
+        let mut map = BTreeMap::new(self.alloc);
+        for (name, piece) in self.map.iter() {
+            map.insert(name.copy()?, piece.copy()?)?;
+        }
+        Ok(View {
+            alloc: self.alloc,
+            map,
+        })
+    }
 }
