@@ -7,6 +7,8 @@ mod evaluate;
 mod laws;
 mod need;
 mod needs;
+#[cfg(test)]
+mod tests;
 mod thin_laws;
 mod view;
 mod walk;
