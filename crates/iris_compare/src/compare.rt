@@ -1,6 +1,4 @@
 //! The comparison of one evaluation over a part of a document with that over the whole.
-ghost use Rattle.std.specs.Prelude.{◌≡◌, [], IfOk};
-ghost use Rattle.iris_need.specs.Needs.{missing_of, from_document};
 
 use crate::parts::piece;
 use anyhow::{Context, ensure};
