@@ -172,23 +172,59 @@ fn answers_where_nothing_is_missing(rt: HostRuntime) -> Result<(), Fail> {
     Ok(())
 }
 
+// Where an ask for the ids of a node begins.
+fn ask(alloc: Global, ids: &str, state: State) -> Result<Start, TextError> {
+    let mut states = Sequence::new(alloc);
+    states.push(state)?;
+    Ok(Start {
+        top: top()?,
+        name: named(alloc, ids)?,
+        level: Level::Ids,
+        states,
+    })
+}
+
 #[test]
 fn lacks_the_name_of_an_ask_with_its_state(rt: HostRuntime) -> Result<(), Fail> {
     let query = query(rt.alloc(), FREE_SPACES)?;
-    let mut states = Sequence::new(rt.alloc());
-    states.push(State::At(3))?;
-    let start = Start {
-        top: top()?,
-        name: named(rt.alloc(), "o n 2")?,
-        level: Level::Ids,
-        states,
-    };
+    let start = ask(rt.alloc(), "o n 2", State::At(3))?;
     let view = held(rt.alloc())?;
     let needs = missing(rt.alloc(), &query, &start, &view)?;
     let wanted = [("o n 2", Level::Ids, Some(State::At(3)))];
     assert!(rt; are(rt.alloc(), &needs, &wanted)?);
     let needs = support(rt.alloc(), &query, &start, &view)?;
     assert!(rt; needs.is_empty());
+    Ok(())
+}
+
+// A hood in a hood, of which there is none with that id.
+const NO_INNER_HOOD: &str = "/city[@id='o']/hood/hood[@id='zz']";
+
+#[test]
+fn lacks_the_ids_of_a_hood_with_the_next_step(rt: HostRuntime) -> Result<(), Fail> {
+    let query = query(rt.alloc(), NO_INNER_HOOD)?;
+    let start = Start::from_document(rt.alloc(), top()?)?;
+    let mut view = View::new(rt.alloc());
+    view.add(piece(rt.alloc(), "o", "n", "")?)?;
+    let needs = missing(rt.alloc(), &query, &start, &view)?;
+    let wanted = [("o n", Level::Ids, Some(State::At(2)))];
+    assert!(rt; are(rt.alloc(), &needs, &wanted)?);
+    Ok(())
+}
+
+#[test]
+fn an_ask_is_told_by_the_ids_alone(rt: HostRuntime) -> Result<(), Fail> {
+    let query = query(rt.alloc(), NO_INNER_HOOD)?;
+    let start = ask(rt.alloc(), "o n", State::At(2))?;
+    let mut view = View::new(rt.alloc());
+    let name = named(rt.alloc(), "o n")?;
+    let ids = children(rt.alloc(), 1, "m")?;
+    let full = None;
+    view.add(Piece { name, ids, full })?;
+    let needs = missing(rt.alloc(), &query, &start, &view)?;
+    assert!(rt; needs.is_empty());
+    let needs = support(rt.alloc(), &query, &start, &view)?;
+    assert!(rt; are(rt.alloc(), &needs, &[("o n", Level::Ids, None)])?);
     Ok(())
 }
 
