@@ -1,3 +1,4 @@
+pub mod Copies
 pub mod Words
 pub mod Labels
 pub mod NameTexts

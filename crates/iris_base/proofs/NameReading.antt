@@ -8,6 +8,8 @@ use Rattle.std.proofs.Math.Seq.{get_or-append_seam}
 use Rattle.std.proofs.lemmas.Option.{same_Some}
 use Rattle.std.proofs.lemmas.Result.{IfOk-weaker, IfErr-weaker}
 use Rattle.iris_base.specs.declared.name.Label.{Label}
+use Rattle.iris_base.specs.declared.letters.TheConstants.{DASH, DOT}
+use Rattle.iris_base.specs.declared.limits.TheConstants.{MAX_KIND_BYTES, MAX_ID_BYTES, MAX_LABELS}
 use Rattle.iris_base.specs.declared.letters.Letters.{Letters}
 use Rattle.iris_base.specs.declared.letters.Letters.TheVariants.{Lower, Word}
 use Rattle.iris_base.specs.Letters.{has, allows}
@@ -17,14 +19,14 @@ use Rattle.iris_base.specs.NameText.{label_text, dotted, name_text, IsLabel, Are
 use Rattle.iris_base.specs.declared.error.NameError.{NameError}
 use Rattle.iris_base.specs.declared.error.NameError.TheVariants.{BadName, Memory}
 use Rattle.iris_base.specs.Refuses.{RefusesName}
-use Rattle.iris_base.specs.NameReader.{Reading, start, letters_of, most_of, takes, ends, close, step, run, IsFront, IsReadKind, IsReading, Finishes, Unfinished}
+use Rattle.iris_base.specs.NameReader.{Reading, start, letters_of, max_bytes_of, takes, ends, close, step, run, IsFront, IsReadKind, IsReading, Finishes, Unfinished}
 use Rattle.iris_base.proofs.Labels.{both}
 use Rattle.iris_base.proofs.NameTexts.{dotted-append}
 
 -- what has been read, as text
 abbrev pub spelled_part : Option (List ℕ) → List ℕ → List ℕ
 spelled_part None part = part
-spelled_part (Some kind) part = kind ++ 45 ∷ part
+spelled_part (Some kind) part = kind ++ DASH ∷ part
 
 abbrev pub spelled : Reading → List ℕ
 spelled r = dotted r.done ++ spelled_part r.kind r.part
@@ -76,7 +78,7 @@ empty_front : (set : Letters) (most : ℕ) → IsFront set most []
 empty_front set most = record { fits = omega arith; each = λ k h. absurd (omega arith) }
 
 -- which way a step went
-took : (r t : Reading) (b : ℕ) → IsReading r → takes (letters_of r.kind) (most_of r.kind) r.part b ≡ true
+took : (r t : Reading) (b : ℕ) → IsReading r → takes (letters_of r.kind) (max_bytes_of r.kind) r.part b ≡ true
     → Some (record { done = r.done; kind = r.kind; part = r.part ++ b ∷ [] }) ≡ Some t → IsReading t × (spelled t ≡ spelled r ++ b ∷ [])
 took r t b ok h e =
     let P : Reading → Type 0 = λ u. IsReading u × (spelled u ≡ spelled r ++ b ∷ []) in
@@ -91,16 +93,16 @@ took r t b ok h e =
 closed_kind : (r t : Reading) (b : ℕ) → IsReading r → r.kind ≡ None → close None r b ≡ Some t → IsReading t × (spelled t ≡ spelled r ++ b ∷ [])
 unfolding ends
 closed_kind r t b ok is e =
-    elim (chosen (ends 45 r.part b) _ _ _ e) [
+    elim (chosen (ends DASH r.part b) _ _ _ e) [
       | inl w ↦ (
           let P : Reading → Type 0 = λ u. IsReading u × (spelled u ≡ spelled r ++ b ∷ []) in
           let same : record { done = r.done; kind = Some r.part; part = [] } ≡ t = cc in
           let tests = both _ _ w.0 in
           let some : 0 < length r.part = ltb-true _ _ tests.0 in
-          let dash : b ≡ 45 = eqb-true _ _ tests.1 in
-          let front : IsFront Lower 16 r.part = subst (λ (k : Option (List ℕ)). IsFront (letters_of k) (most_of k) r.part) is ok.part in
+          let dash : b ≡ DASH = eqb-true _ _ tests.1 in
+          let front : IsFront Lower MAX_KIND_BYTES r.part = subst (λ (k : Option (List ℕ)). IsFront (letters_of k) (max_bytes_of k) r.part) is ok.part in
           subst P same (
-            record { labels = ok.labels; few = ok.few; kind = word Lower 16 r.part front some; part = empty_front Word 24 },
+            record { labels = ok.labels; few = ok.few; kind = word Lower MAX_KIND_BYTES r.part front some; part = empty_front Word MAX_ID_BYTES },
             rw (dash, is) (simp append_assoc),
           ))
       | inr w ↦ absurd (cc)
@@ -109,7 +111,7 @@ closed_kind r t b ok is e =
 closed_id : (r t : Reading) (b : ℕ) (kind : List ℕ) → IsReading r → r.kind ≡ Some kind → close (Some kind) r b ≡ Some t → IsReading t × (spelled t ≡ spelled r ++ b ∷ [])
 unfolding ends
 closed_id r t b kind ok is e =
-    elim (chosen (ends 46 r.part b && nat_lt (length r.done) 15) _ _ _ e) [
+    elim (chosen (ends DOT r.part b && nat_lt (length r.done + 1) MAX_LABELS) _ _ _ e) [
       | inl w ↦ (
           let P : Reading → Type 0 = λ u. IsReading u × (spelled u ≡ spelled r ++ b ∷ []) in
           let l : Label = record { kind = kind; id = r.part } in
@@ -117,17 +119,17 @@ closed_id r t b kind ok is e =
           let tests = both _ _ w.0 in
           let ended = both _ _ tests.0 in
           let some : 0 < length r.part = ltb-true _ _ ended.0 in
-          let dot : b ≡ 46 = eqb-true _ _ ended.1 in
-          let room : length r.done < 15 = ltb-true _ _ tests.1 in
-          let front : IsFront Word 24 r.part = subst (λ (k : Option (List ℕ)). IsFront (letters_of k) (most_of k) r.part) is ok.part in
+          let dot : b ≡ DOT = eqb-true _ _ ended.1 in
+          let room : length r.done + 1 < MAX_LABELS = ltb-true _ _ tests.1 in
+          let front : IsFront Word MAX_ID_BYTES r.part = subst (λ (k : Option (List ℕ)). IsFront (letters_of k) (max_bytes_of k) r.part) is ok.part in
           let read : IsKind kind = subst IsReadKind is ok.kind in
-          let label : IsLabel l = record { kind = read; id = word Word 24 r.part front some } in
+          let label : IsLabel l = record { kind = read; id = word Word MAX_ID_BYTES r.part front some } in
           subst P same (
             record {
               labels = AreLabels-append r.done (l ∷ []) ok.labels (label, tt);
               few = simp length-append (omega arith);
               kind = tt;
-              part = empty_front Lower 16;
+              part = empty_front Lower MAX_KIND_BYTES;
             },
             rw (dot, is, dotted-append r.done (l ∷ [])) (simp append_assoc),
           ))
@@ -142,7 +144,7 @@ closed r t b (Some kind) ok is e = closed_id r t b kind ok is e
 steps : (r t : Reading) (b : ℕ) → IsReading r → step r b ≡ Some t → IsReading t × (spelled t ≡ spelled r ++ b ∷ [])
 unfolding step
 steps r t b ok h =
-    elim (chosen (takes (letters_of r.kind) (most_of r.kind) r.part b) _ _ _ h) [
+    elim (chosen (takes (letters_of r.kind) (max_bytes_of r.kind) r.part b) _ _ _ h) [
       | inl w ↦ took r t b ok w.0 w.1
       | inr w ↦ closed r t b r.kind ok refl w.1
     ]
@@ -151,12 +153,12 @@ steps r t b ok h =
 made_name : (r : Reading) (kind : List ℕ) → IsReading r → r.kind ≡ Some kind → 0 < length r.part
     → (let l : Label = record { kind = kind; id = r.part } in IsName (l ∷ reverse r.done) × (spelled r ≡ name_text (l ∷ reverse r.done)))
 made_name r kind ok is some =
-    let front : IsFront Word 24 r.part = subst (λ (k : Option (List ℕ)). IsFront (letters_of k) (most_of k) r.part) is ok.part in
+    let front : IsFront Word MAX_ID_BYTES r.part = subst (λ (k : Option (List ℕ)). IsFront (letters_of k) (max_bytes_of k) r.part) is ok.part in
     let read : IsKind kind = subst IsReadKind is ok.kind in (
       record {
         some = omega arith;
         few = omega (arith, length-reverse r.done, ok.few);
-        labels = (record { kind = read; id = word Word 24 r.part front some }, AreLabels-reverse r.done ok.labels);
+        labels = (record { kind = read; id = word Word MAX_ID_BYTES r.part front some }, AreLabels-reverse r.done ok.labels);
       },
       rw (is, reverse-reverse r.done) refl,
     )
@@ -179,22 +181,22 @@ name_with r l rest ok label e = (
 begun : (r : Reading) (k : Option (List ℕ)) (part : List ℕ) → r.kind ≡ k → r.part ≡ part → IsReading r → Begins IsNameText (spelled r)
 begun r None [] is has ok =
     name_with r (record { kind = 97 ∷ []; id = 97 ∷ [] }) (97 ∷ 45 ∷ 97 ∷ []) ok
-    (record { kind = a_word Lower 16 (omega arith) refl; id = a_word Word 24 (omega arith) refl }) (rw (is, has) refl)
+    (record { kind = a_word Lower MAX_KIND_BYTES (omega arith) refl; id = a_word Word MAX_ID_BYTES (omega arith) refl }) (rw (is, has) refl)
 begun r None (c ∷ cs) is has ok =
-    let front : IsFront Lower 16 r.part = subst (λ (k : Option (List ℕ)). IsFront (letters_of k) (most_of k) r.part) is ok.part in
+    let front : IsFront Lower MAX_KIND_BYTES r.part = subst (λ (k : Option (List ℕ)). IsFront (letters_of k) (max_bytes_of k) r.part) is ok.part in
     let some : 0 < length r.part = rw has (omega arith) in
     name_with r (record { kind = r.part; id = 97 ∷ [] }) (45 ∷ 97 ∷ []) ok
-    (record { kind = word Lower 16 r.part front some; id = a_word Word 24 (omega arith) refl }) (rw is refl)
+    (record { kind = word Lower MAX_KIND_BYTES r.part front some; id = a_word Word MAX_ID_BYTES (omega arith) refl }) (rw is refl)
 begun r (Some kind) [] is has ok =
     let read : IsKind kind = subst IsReadKind is ok.kind in
     name_with r (record { kind = kind; id = 97 ∷ [] }) (97 ∷ []) ok
-    (record { kind = read; id = a_word Word 24 (omega arith) refl }) (rw (is, has) (simp append_assoc))
+    (record { kind = read; id = a_word Word MAX_ID_BYTES (omega arith) refl }) (rw (is, has) (simp append_assoc))
 begun r (Some kind) (c ∷ cs) is has ok =
-    let front : IsFront Word 24 r.part = subst (λ (k : Option (List ℕ)). IsFront (letters_of k) (most_of k) r.part) is ok.part in
+    let front : IsFront Word MAX_ID_BYTES r.part = subst (λ (k : Option (List ℕ)). IsFront (letters_of k) (max_bytes_of k) r.part) is ok.part in
     let some : 0 < length r.part = rw has (omega arith) in
     let read : IsKind kind = subst IsReadKind is ok.kind in
     name_with r (record { kind = kind; id = r.part }) [] ok
-    (record { kind = read; id = word Word 24 r.part front some }) (rw is (simp append-nil))
+    (record { kind = read; id = word Word MAX_ID_BYTES r.part front some }) (rw is (simp append-nil))
 
 -- reading goes on
 run-append : (r : Reading) (xs ys : List ℕ) → run r (xs ++ ys) ≡ option_and_then (λ s. run s ys) (run r xs)
@@ -223,25 +225,25 @@ same_set : (set : Letters) (i c : ℕ) → allows set set i c ≡ has set c
 unfolding allows
 same_set set i c = ap (λ (s : Letters). has s c) (cond_same (i == 0) set)
 
-goes : (r : Reading) (b : ℕ) (bs : List ℕ) → IsFront (letters_of r.kind) (most_of r.kind) (r.part ++ b ∷ bs) → step r b ≡ Some (record { done = r.done; kind = r.kind; part = r.part ++ b ∷ [] })
+goes : (r : Reading) (b : ℕ) (bs : List ℕ) → IsFront (letters_of r.kind) (max_bytes_of r.kind) (r.part ++ b ∷ bs) → step r b ≡ Some (record { done = r.done; kind = r.kind; part = r.part ++ b ∷ [] })
 unfolding step takes
 goes r b bs front =
     let len : length (r.part ++ b ∷ bs) ≡ length r.part + (1 + length bs) = simp length-append (omega arith) in
-    let room : nat_lt (length r.part) (most_of r.kind) ≡ true = lt-ltb _ _ (omega (arith, front.fits)) in
+    let room : nat_lt (length r.part) (max_bytes_of r.kind) ≡ true = lt-ltb _ _ (omega (arith, front.fits)) in
     let seam : get_or (r.part ++ b ∷ bs) (length r.part) 0 ≡ b = get_or-append_seam r.part b bs 0 in
     let may : allows (letters_of r.kind) (letters_of r.kind) (length r.part) b ≡ true
     = subst (λ (c : ℕ). allows (letters_of r.kind) (letters_of r.kind) (length r.part) c ≡ true) seam (front.each (length r.part) (omega arith)) in
     rw (room, may) refl
 
 -- a word is read whole
-run-word : (r : Reading) (more : List ℕ) → IsFront (letters_of r.kind) (most_of r.kind) (r.part ++ more)
+run-word : (r : Reading) (more : List ℕ) → IsFront (letters_of r.kind) (max_bytes_of r.kind) (r.part ++ more)
     → run r more ≡ Some (record { done = r.done; kind = r.kind; part = r.part ++ more })
 unfolding run
 run-word r [] front = rw (append-nil r.part) refl
 run-word r (b ∷ bs) front =
     let next : Reading = record { done = r.done; kind = r.kind; part = r.part ++ b ∷ [] } in
     let whole : next.part ++ bs ≡ r.part ++ b ∷ bs = simp append_assoc in
-    let front' : IsFront (letters_of next.kind) (most_of next.kind) (next.part ++ bs) = rw whole front in
+    let front' : IsFront (letters_of next.kind) (max_bytes_of next.kind) (next.part ++ bs) = rw whole front in
     run-cons r next b bs (goes r b bs front) ∙ run-word next bs front' ∙ ap (λ (p : List ℕ). Some (record { done = r.done; kind = r.kind; part = p })) whole
 
 -- a dash behind a kind, and a dot behind a label
@@ -253,17 +255,17 @@ not_taken set most part b not = rw (same_set set (length part) b, not) (last (na
     last true = refl
     last false = refl
 
-dashed : (done : List Label) (part : List ℕ) → 0 < length part → step (record { done = done; kind = None; part = part }) 45 ≡ Some (record { done = done; kind = Some part; part = [] })
+dashed : (done : List Label) (part : List ℕ) → 0 < length part → step (record { done = done; kind = None; part = part }) DASH ≡ Some (record { done = done; kind = Some part; part = [] })
 unfolding step ends
-dashed done part some = let room : nat_lt 0 (length part) ≡ true = lt-ltb _ _ some in rw (not_taken Lower 16 part 45 refl, room) refl
+dashed done part some = let room : nat_lt 0 (length part) ≡ true = lt-ltb _ _ some in rw (not_taken Lower MAX_KIND_BYTES part DASH refl, room) refl
 
-dotted_step : (done : List Label) (l : Label) → 0 < length l.id → length done < 15
-    → step (record { done = done; kind = Some l.kind; part = l.id }) 46 ≡ Some (record { done = done ++ l ∷ []; kind = None; part = [] })
+dotted_step : (done : List Label) (l : Label) → 0 < length l.id → length done + 1 < MAX_LABELS
+    → step (record { done = done; kind = Some l.kind; part = l.id }) DOT ≡ Some (record { done = done ++ l ∷ []; kind = None; part = [] })
 unfolding step ends
 dotted_step done l some few =
     let long : nat_lt 0 (length l.id) ≡ true = lt-ltb _ _ some in
-    let room : nat_lt (length done) 15 ≡ true = lt-ltb _ _ few in
-    rw (not_taken Word 24 l.id 46 refl, long, room) refl
+    let room : nat_lt (length done + 1) MAX_LABELS ≡ true = lt-ltb _ _ few in
+    rw (not_taken Word MAX_ID_BYTES l.id DOT refl, long, room) refl
 
 -- a label is read whole
 run-label : (done : List Label) (l : Label) → IsLabel l → run (record { done = done; kind = None; part = [] }) (label_text l) ≡ Some (record { done = done; kind = Some l.kind; part = l.id })
@@ -271,20 +273,20 @@ run-label done l ok =
     let fresh : Reading = record { done = done; kind = None; part = [] } in
     let named : Reading = record { done = done; kind = None; part = l.kind } in
     let split : Reading = record { done = done; kind = Some l.kind; part = [] } in
-    run-then fresh named l.kind (45 ∷ l.id) (run-word fresh l.kind (record { fits = ok.kind.fits; each = ok.kind.each }))
-    ∙ run-cons named split 45 l.id (dashed done l.kind ok.kind.some)
+    run-then fresh named l.kind (DASH ∷ l.id) (run-word fresh l.kind (record { fits = ok.kind.fits; each = ok.kind.each }))
+    ∙ run-cons named split DASH l.id (dashed done l.kind ok.kind.some)
     ∙ run-word split l.id (record { fits = ok.id.fits; each = ok.id.each })
 
-run-dotted : (done ls : List Label) (rest : List ℕ) → AreLabels ls → length done + length ls ≤ 15
+run-dotted : (done ls : List Label) (rest : List ℕ) → AreLabels ls → length done + length ls < MAX_LABELS
     → run (record { done = done; kind = None; part = [] }) (dotted ls ++ rest) ≡ run (record { done = done ++ ls; kind = None; part = [] }) rest
 run-dotted done [] rest ok few = rw (append-nil done) refl
 run-dotted done (l ∷ ls) rest ok few =
     let after : Reading = record { done = done ++ l ∷ []; kind = None; part = [] } in
     let len : length (done ++ l ∷ []) ≡ length done + 1 = simp length-append (omega arith) in
     let moved : (done ++ l ∷ []) ++ ls ≡ done ++ l ∷ ls = simp append_assoc in
-    ap (run (record { done = done; kind = None; part = [] })) (append_assoc (label_text l) (46 ∷ dotted ls) rest)
-    ∙ run-then (record { done = done; kind = None; part = [] }) (record { done = done; kind = Some l.kind; part = l.id }) (label_text l) (46 ∷ dotted ls ++ rest) (run-label done l ok.0)
-    ∙ run-cons (record { done = done; kind = Some l.kind; part = l.id }) after 46 (dotted ls ++ rest) (dotted_step done l ok.0.id.some (omega arith))
+    ap (run (record { done = done; kind = None; part = [] })) (append_assoc (label_text l) (DOT ∷ dotted ls) rest)
+    ∙ run-then (record { done = done; kind = None; part = [] }) (record { done = done; kind = Some l.kind; part = l.id }) (label_text l) (DOT ∷ dotted ls ++ rest) (run-label done l ok.0)
+    ∙ run-cons (record { done = done; kind = Some l.kind; part = l.id }) after DOT (dotted ls ++ rest) (dotted_step done l ok.0.id.some (omega arith))
     ∙ run-dotted (done ++ l ∷ []) ls rest ok.1 (omega arith)
     ∙ ap (λ (d : List Label). run (record { done = d; kind = None; part = [] }) rest) moved
 
@@ -356,7 +358,7 @@ name_text_once (x ∷ xs) (y ∷ ys) a b e =
 
 pub starts : (run start [] ≡ Some start) × IsReading start × (spelled start ≡ [])
 unfolding run
-starts = (refl, record { labels = tt; few = omega arith; kind = tt; part = empty_front Lower 16 }, refl)
+starts = (refl, record { labels = tt; few = omega arith; kind = tt; part = empty_front Lower MAX_KIND_BYTES }, refl)
 
 -- one more byte is read
 pub reads_on : (bytes : List ℕ) (i : ℕ) (r t : Reading) → i < length bytes → run start (take i bytes) ≡ Some r → IsReading r → spelled r ≡ take i bytes

@@ -2,6 +2,7 @@
 use Rattle.std.specs.Prelude.{◌≡◌, ℕ, true, ◌<◌, ◌≤◌, List, length, slice_index}
 use Rattle.iris_base.specs.declared.letters.Letters.{Letters}
 use Rattle.iris_base.specs.declared.letters.Letters.TheVariants.{Lower, LowerOrDigit, Word, Letter, WordOrDash}
+use Rattle.iris_base.specs.declared.limits.TheConstants.{MAX_KIND_BYTES, MAX_ID_BYTES, MAX_TAG_BYTES, MAX_AGENT_BYTES}
 use Rattle.iris_base.specs.Letters.{allows}
 
 -- the first bytes are such as may stand there
@@ -15,13 +16,13 @@ pub record IsWord (first later : Letters) (most : ℕ) (bytes : List ℕ) : Type
   pub each : AllowsBelow first later bytes (length bytes)
 
 abbrev pub IsKind : List ℕ → Type 0
-IsKind = IsWord Lower Lower 16
+IsKind = IsWord Lower Lower MAX_KIND_BYTES
 
 abbrev pub IsId : List ℕ → Type 0
-IsId = IsWord Word Word 24
+IsId = IsWord Word Word MAX_ID_BYTES
 
 abbrev pub IsTag : List ℕ → Type 0
-IsTag = IsWord Letter WordOrDash 24
+IsTag = IsWord Letter WordOrDash MAX_TAG_BYTES
 
 abbrev pub IsAgentId : List ℕ → Type 0
-IsAgentId = IsWord LowerOrDigit LowerOrDigit 16
+IsAgentId = IsWord LowerOrDigit LowerOrDigit MAX_AGENT_BYTES

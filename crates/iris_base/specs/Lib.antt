@@ -7,5 +7,6 @@ pub mod Under
 pub mod NameOrder
 pub mod NameText
 pub mod NameReader
-pub mod Messages
+pub mod Outside
+pub mod Attribute
 pub mod formers

@@ -1,8 +1,10 @@
 -- Reading a name from the left, byte by byte: for private clauses alone. Proofs show that what is read whole is just the texts of names.
-use Rattle.std.specs.Prelude.{◌≡◌, ℕ, ◌<◌, ◌≤◌, Bool, ◌&&◌, ◌==◌, nat_lt, Option, Some, None, List, [], ◌∷◌, ◌++◌, length, if◌then◌else◌, option_and_then, reverse}
+use Rattle.std.specs.Prelude.{◌≡◌, ℕ, ◌+◌, ◌<◌, ◌≤◌, Bool, ◌&&◌, ◌==◌, nat_lt, Option, Some, None, List, [], ◌∷◌, ◌++◌, length, if◌then◌else◌, option_and_then, reverse}
 use Rattle.iris_base.specs.declared.name.Label.{Label}
 use Rattle.iris_base.specs.declared.letters.Letters.{Letters}
 use Rattle.iris_base.specs.declared.letters.Letters.TheVariants.{Lower, Word}
+use Rattle.iris_base.specs.declared.letters.TheConstants.{DASH, DOT}
+use Rattle.iris_base.specs.declared.limits.TheConstants.{MAX_KIND_BYTES, MAX_ID_BYTES, MAX_LABELS}
 use Rattle.iris_base.specs.Letters.{allows}
 use Rattle.iris_base.specs.Forms.{AllowsBelow, IsKind}
 use Rattle.iris_base.specs.NameText.{AreLabels}
@@ -23,9 +25,9 @@ abbrev pub letters_of : Option (List ℕ) → Letters
 letters_of None = Lower
 letters_of (Some kind) = Word
 
-abbrev pub most_of : Option (List ℕ) → ℕ
-most_of None = 16
-most_of (Some kind) = 24
+abbrev pub max_bytes_of : Option (List ℕ) → ℕ
+max_bytes_of None = MAX_KIND_BYTES
+max_bytes_of (Some kind) = MAX_ID_BYTES
 
 -- whether a word of that form goes on with the byte
 unfoldable pub takes : Letters → ℕ → List ℕ → ℕ → Bool
@@ -37,13 +39,13 @@ ends separator part b = nat_lt 0 (length part) && b == separator
 
 -- a separator behind the part
 abbrev pub close : Option (List ℕ) → Reading → ℕ → Option Reading
-close None r b = if ends 45 r.part b then Some (record { done = r.done; kind = Some r.part; part = [] }) else None
+close None r b = if ends DASH r.part b then Some (record { done = r.done; kind = Some r.part; part = [] }) else None
 close (Some kind) r b =
-    if ends 46 r.part b && nat_lt (length r.done) 15 then Some (record { done = r.done ++ record { kind = kind; id = r.part } ∷ []; kind = None; part = [] }) else None
+    if ends DOT r.part b && nat_lt (length r.done + 1) MAX_LABELS then Some (record { done = r.done ++ record { kind = kind; id = r.part } ∷ []; kind = None; part = [] }) else None
 
 unfoldable pub step : Reading → ℕ → Option Reading
 step r b =
-    if takes (letters_of r.kind) (most_of r.kind) r.part b then Some (record { done = r.done; kind = r.kind; part = r.part ++ b ∷ [] }) else close r.kind r b
+    if takes (letters_of r.kind) (max_bytes_of r.kind) r.part b then Some (record { done = r.done; kind = r.kind; part = r.part ++ b ∷ [] }) else close r.kind r b
 
 unfoldable pub run : Reading → List ℕ → Option Reading
 run r [] = Some r
@@ -61,9 +63,9 @@ IsReadKind (Some kind) = IsKind kind
 -- what a reading has
 pub record IsReading (r : Reading) : Type 0 where
   pub labels : AreLabels r.done
-  pub few : length r.done ≤ 15
+  pub few : length r.done < MAX_LABELS
   pub kind : IsReadKind r.kind
-  pub part : IsFront (letters_of r.kind) (most_of r.kind) r.part
+  pub part : IsFront (letters_of r.kind) (max_bytes_of r.kind) r.part
 
 -- the name that ends with the label under way
 pub record Finishes (r : Reading) (name : List Label) : Type 0 where

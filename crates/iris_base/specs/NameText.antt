@@ -1,16 +1,18 @@
 -- The text of a name.
 use Rattle.std.specs.Prelude.{◌≡◌, ℕ, ◌<◌, ◌≤◌, List, [], ◌∷◌, ◌++◌, length, reverse}
 use Rattle.iris_base.specs.declared.name.Label.{Label}
+use Rattle.iris_base.specs.declared.letters.TheConstants.{DASH, DOT}
+use Rattle.iris_base.specs.declared.limits.TheConstants.{MAX_LABELS}
 use Rattle.iris_base.specs.Forms.{IsKind, IsId}
 
 -- kind-id
 abbrev pub label_text : Label → List ℕ
-label_text l = l.kind ++ 45 ∷ l.id
+label_text l = l.kind ++ DASH ∷ l.id
 
 -- each label, and a dot behind it
 abbrev pub dotted : List Label → List ℕ
 dotted [] = []
-dotted (l ∷ ls) = label_text l ++ 46 ∷ dotted ls
+dotted (l ∷ ls) = label_text l ++ DOT ∷ dotted ls
 
 -- the labels from the node up to the top, with dots between
 abbrev pub name_text : List Label → List ℕ
@@ -27,10 +29,10 @@ abbrev pub AreLabels : List Label → Type 0
 AreLabels [] = Unit {0}
 AreLabels (l ∷ ls) = IsLabel l × AreLabels ls
 
--- 1 to 16 labels
+-- it has labels, and not too many of them
 pub record IsName (name : List Label) : Type 0 where
   pub some : 0 < length name
-  pub few : length name ≤ 16
+  pub few : length name ≤ MAX_LABELS
   pub labels : AreLabels name
 
 -- the text of such a name

@@ -3,6 +3,7 @@ ghost use Rattle.std.specs.Prelude.{◌≡◌, IfOk};
 
 use crate::memory::Mem;
 use crate::name::Name;
+use std::alloc::AllocError;
 
 /// What an answer rests on: a node's value at a version, which its owner held at a moment.
 #[derive(Debug, Drop)]
@@ -19,8 +20,16 @@ impl Cite {
     pub fn copy(&self) -> Mem<Cite>
         ensures { IfOk result (λ copy. copy ≡ self.now) }
     {
+        Ok(self.clone()?)
+    }
+}
+
+impl Clone for Cite {
+    ghost is_clone = { λ cite copy. copy ≡ cite };
+
+    fn clone(&self) -> Result<Cite, AllocError> {
         Ok(Cite {
-            name: self.name.copy()?,
+            name: self.name.clone()?,
             version: self.version,
             stamp: self.stamp,
         })

@@ -4,6 +4,17 @@ ghost use Rattle.iris_base.specs.Letters.{has, allows};
 ghost use Rattle.iris_base.specs.Forms.{IsWord};
 ghost use Rattle.iris_base.specs.Stops.{StopsAt};
 
+use crate::limits::{MAX_AGENT_BYTES, MAX_ID_BYTES, MAX_KIND_BYTES, MAX_TAG_BYTES};
+
+/// What stands between the kind and the id of a label, in its text.
+pub const DASH: u8 = b'-';
+
+/// What stands between two labels of a name, in its text.
+pub const DOT: u8 = b'.';
+
+/// What may stand in ids and tags beside letters and digits.
+pub const UNDERSCORE: u8 = b'_';
+
 /// A set of ASCII characters.
 #[derive(Clone, Copy, Debug, PartialEq, Eq, Hash)]
 pub enum Letters {
@@ -38,9 +49,11 @@ impl Letters {
         match self {
             Letters::Lower => byte.is_ascii_lowercase(),
             Letters::LowerOrDigit => byte.is_ascii_lowercase() || byte.is_ascii_digit(),
-            Letters::Word => byte.is_ascii_alphanumeric() || byte == b'_',
+            Letters::Word => byte.is_ascii_alphanumeric() || byte == UNDERSCORE,
             Letters::Letter => byte.is_ascii_alphabetic(),
-            Letters::WordOrDash => byte.is_ascii_alphanumeric() || byte == b'_' || byte == b'-',
+            Letters::WordOrDash => byte.is_ascii_alphanumeric()
+                || byte == UNDERSCORE
+                || byte == DASH,
         }
     }
 }
@@ -50,28 +63,28 @@ impl Form {
     pub const KIND: Form = Form {
         first: Letters::Lower,
         later: Letters::Lower,
-        most: 16,
+        most: MAX_KIND_BYTES,
     };
 
     /// Ids of nodes, as `north`: 1 to 24 letters, digits and `_`.
     pub const ID: Form = Form {
         first: Letters::Word,
         later: Letters::Word,
-        most: 24,
+        most: MAX_ID_BYTES,
     };
 
     /// Names of attributes and elements: 1 to 24 letters, digits, `_` and `-`, the first a letter.
     pub const TAG: Form = Form {
         first: Letters::Letter,
         later: Letters::WordOrDash,
-        most: 24,
+        most: MAX_TAG_BYTES,
     };
 
     /// Ids of agents: 1 to 16 lower-case letters and digits.
     pub const AGENT: Form = Form {
         first: Letters::LowerOrDigit,
         later: Letters::LowerOrDigit,
-        most: 16,
+        most: MAX_AGENT_BYTES,
     };
 
     /// Whether this byte may stand at index `i`, however long a text may be.

@@ -1,9 +1,12 @@
 //! What every crate of iris shares: want of memory, lists, texts, labels and names.
 #![tactic(auto)]
 
+mod attribute;
 mod cite;
 mod error;
+mod faults;
 mod letters;
+mod limits;
 mod memory;
 mod name;
 mod reading;
@@ -15,9 +18,17 @@ mod tests;
 mod text;
 mod word;
 
+pub use attribute::is_id;
 pub use cite::Cite;
 pub use error::{NameError, TextError};
-pub use letters::{Form, Letters};
+pub use faults::{Fault, count_fault};
+pub use letters::{DASH, DOT, Form, Letters, UNDERSCORE};
+pub use limits::{
+    MAX_AGENT_BYTES, MAX_ATTRIBUTES, MAX_CHANGES, MAX_CHILDREN, MAX_CITY_BYTES, MAX_ID_BYTES,
+    MAX_KIND_BYTES, MAX_KINDS, MAX_LABELS, MAX_LINE_BYTES, MAX_LINES, MAX_LOCAL_BYTES, MAX_NODES,
+    MAX_NUMBER, MAX_OPERANDS, MAX_QUERY_BYTES, MAX_SCRIPT_BYTES, MAX_STEPS, MAX_TAG_BYTES,
+    MAX_TRIES,
+};
 pub use memory::{Mem, Memory};
 pub use name::{Label, Name};
 pub use reading::read_name;

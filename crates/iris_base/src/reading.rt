@@ -7,7 +7,8 @@ ghost use Rattle.iris_base.specs.NameReader.{step, IsReading, Finishes, Unfinish
 ghost use Rattle.iris_base.specs.Refuses.{RefusesName};
 
 use crate::error::NameError;
-use crate::letters::Form;
+use crate::letters::{DASH, DOT, Form};
+use crate::limits::MAX_LABELS;
 use crate::memory::{Mem, Memory};
 use crate::name::{Label, Name};
 use crate::short::{Id, Kind};
@@ -53,10 +54,10 @@ impl Reader {
             return Ok(false);
         }
         match self.kind.take() {
-            None if byte == b'-' => {
+            None if byte == DASH => {
                 self.kind = Some(Kind::from_bytes(&self.part));
             }
-            Some(kind) if byte == b'.' && self.labels.len() < 15 => {
+            Some(kind) if byte == DOT && self.labels.len() + 1 < MAX_LABELS => {
                 let id = Id::from_bytes(&self.part);
                 self.labels.push(Label { kind, id })?;
             }

@@ -1,5 +1,6 @@
 //! A list that contracts see as the list of its elements.
-ghost use Rattle.std.specs.Prelude.{◌≡◌, ◌↔◌, [], ◌∷◌, ◌++◌, length, IsTrue, OnOk, OnErr};
+ghost use Rattle.std.specs.Prelude.{◌≡◌, ◌↔◌, [], ◌∷◌, ◌++◌, length, IsTrue, IfOk, OnOk, OnErr};
+ghost use Rattle.std.specs.List.{AllZip};
 ghost use Rattle.std.specs.Cmp.Lexicographic.{pointwise, lists_per, lists_equiv};
 
 use crate::memory::Mem;
@@ -86,6 +87,17 @@ impl<T: Drop> Sequence<T> {
     {
         self.items.push(item)?;
         Ok(())
+    }
+}
+
+impl<T: Clone> Sequence<T> {
+    /// A copy, by the same allocator, each element by its own `clone`.
+    pub fn copy(&self) -> Mem<Sequence<T>>
+        ensures { IfOk result (λ copy. AllZip T.is_clone self.now copy) }
+    {
+        Ok(Sequence {
+            items: self.items.clone()?,
+        })
     }
 }
 

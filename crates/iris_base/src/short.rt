@@ -11,6 +11,7 @@ ghost use Rattle.iris_base.specs.Refuses.{Refuses};
 
 use crate::error::TextError;
 use crate::letters::Form;
+use crate::limits::{MAX_AGENT_BYTES, MAX_ID_BYTES, MAX_KIND_BYTES, MAX_TAG_BYTES};
 use crate::memory::Mem;
 use crate::word::Word;
 use std::cmp::Ordering;
@@ -179,9 +180,10 @@ pub struct KindForm;
 
 impl Spelled for KindForm {
     ghost use Rattle.std.proofs.Common.{arith};
+    ghost use Rattle.iris_base.specs.declared.limits.TheConstants.{MAX_KIND_BYTES};
     ghost use Rattle.iris_base.specs.declared.letters.Letters.TheVariants.{Lower};
 
-    ghost form = { record { first = Lower; later = Lower; most = 16 } };
+    ghost form = { record { first = Lower; later = Lower; most = MAX_KIND_BYTES } };
 
     ghost some = { Prim.omega arith };
 
@@ -191,7 +193,7 @@ impl Spelled for KindForm {
 }
 
 /// A kind of nodes, as `hood`: 1 to 16 lower-case letters.
-pub type Kind = Short<KindForm, 16>;
+pub type Kind = Short<KindForm, MAX_KIND_BYTES>;
 
 /// The form of ids.
 #[derive(Clone, Copy, Debug)]
@@ -199,9 +201,10 @@ pub struct IdForm;
 
 impl Spelled for IdForm {
     ghost use Rattle.std.proofs.Common.{arith};
+    ghost use Rattle.iris_base.specs.declared.limits.TheConstants.{MAX_ID_BYTES};
     ghost use Rattle.iris_base.specs.declared.letters.Letters.TheVariants.{Word};
 
-    ghost form = { record { first = Word; later = Word; most = 24 } };
+    ghost form = { record { first = Word; later = Word; most = MAX_ID_BYTES } };
 
     ghost some = { Prim.omega arith };
 
@@ -211,7 +214,7 @@ impl Spelled for IdForm {
 }
 
 /// A node's id among its siblings of one kind: 1 to 24 ASCII letters, digits and `_`.
-pub type Id = Short<IdForm, 24>;
+pub type Id = Short<IdForm, MAX_ID_BYTES>;
 
 /// The form of tags.
 #[derive(Clone, Copy, Debug)]
@@ -219,9 +222,10 @@ pub struct TagForm;
 
 impl Spelled for TagForm {
     ghost use Rattle.std.proofs.Common.{arith};
+    ghost use Rattle.iris_base.specs.declared.limits.TheConstants.{MAX_TAG_BYTES};
     ghost use Rattle.iris_base.specs.declared.letters.Letters.TheVariants.{Letter, WordOrDash};
 
-    ghost form = { record { first = Letter; later = WordOrDash; most = 24 } };
+    ghost form = { record { first = Letter; later = WordOrDash; most = MAX_TAG_BYTES } };
 
     ghost some = { Prim.omega arith };
 
@@ -232,7 +236,7 @@ impl Spelled for TagForm {
 
 /// The name of an attribute or of an element: 1 to 24 ASCII letters, digits, `_` and `-`, the first a
 /// letter.
-pub type Tag = Short<TagForm, 24>;
+pub type Tag = Short<TagForm, MAX_TAG_BYTES>;
 
 /// The form of agents' ids.
 #[derive(Clone, Copy, Debug)]
@@ -240,9 +244,10 @@ pub struct AgentForm;
 
 impl Spelled for AgentForm {
     ghost use Rattle.std.proofs.Common.{arith};
+    ghost use Rattle.iris_base.specs.declared.limits.TheConstants.{MAX_AGENT_BYTES};
     ghost use Rattle.iris_base.specs.declared.letters.Letters.TheVariants.{LowerOrDigit};
 
-    ghost form = { record { first = LowerOrDigit; later = LowerOrDigit; most = 16 } };
+    ghost form = { record { first = LowerOrDigit; later = LowerOrDigit; most = MAX_AGENT_BYTES } };
 
     ghost some = { Prim.omega arith };
 
@@ -252,4 +257,4 @@ impl Spelled for AgentForm {
 }
 
 /// An agent's id: 1 to 16 lower-case letters and digits.
-pub type AgentId = Short<AgentForm, 16>;
+pub type AgentId = Short<AgentForm, MAX_AGENT_BYTES>;

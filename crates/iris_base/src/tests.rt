@@ -1,6 +1,8 @@
 //! Each call once, with answers from outside.
 
+use crate::attribute::is_id;
 use crate::error::{NameError, TextError};
+use crate::faults::{Fault, count_fault};
 use crate::letters::Form;
 use crate::memory::{Mem, Memory};
 use crate::name::{Label, Name};
@@ -20,10 +22,6 @@ struct Folder {
     folders: Sequence<Folder>,
 }
 
-fn bad_text(at: usize) -> Option<TextError> {
-    Some(TextError::BadText { at })
-}
-
 fn label(kind: &str, id: &str) -> Result<Label, TextError> {
     let kind = Kind::new(kind)?;
     let id = Id::new(id)?;
@@ -35,41 +33,15 @@ fn name(alloc: Global, labels: &[Label]) -> Mem<Name> {
 }
 
 #[test]
-fn kinds(rt: HostRuntime) -> Result<(), Fail> {
-    assert_eq!(rt; Kind::new("hood")?.as_str(), "hood");
-    assert_eq!(rt;
-        Kind::new("abcdefghijklmnop")?.as_bytes(),
-        b"abcdefghijklmnop".as_slice()
-    );
-    for (text, at) in [("", 0), ("ho0d", 2), ("abcdefghijklmnopq", 16)] {
-        assert_eq!(rt; Kind::new(text).err(), bad_text(at));
-    }
-    Ok(())
-}
-
-#[test]
-fn ids(rt: HostRuntime) -> Result<(), Fail> {
+fn short_texts(rt: HostRuntime) -> Result<(), Fail> {
+    assert_eq!(rt; Kind::new("hood")?.as_bytes(), b"hood".as_slice());
+    assert_eq!(rt; Kind::new("ho0d").err(), Some(TextError::BadText { at: 2 }));
     assert_eq!(rt; Id::new("A_9")?.as_str(), "A_9");
-    assert_eq!(rt;
-        Id::new("abcdefghijklmnopqrstuvwx")?.as_str(),
-        "abcdefghijklmnopqrstuvwx"
-    );
-    for (text, at) in [("abcdefghijklmnopqrstuvwxy", 24), ("a-b", 1), ("a😀", 1)] {
-        assert_eq!(rt; Id::new(text).err(), bad_text(at));
-    }
-    Ok(())
-}
-
-#[test]
-fn tags_and_agents(rt: HostRuntime) -> Result<(), Fail> {
     assert_eq!(rt; Tag::new("a-b_9")?.as_str(), "a-b_9");
-    assert_eq!(rt; Tag::new("9a").err(), bad_text(0));
     assert_eq!(rt; AgentId::new("a1")?.copy()?.as_str(), "a1");
-    for (text, at) in [("a-", 1), ("A", 0)] {
-        assert_eq!(rt; AgentId::new(text).err(), bad_text(at));
-    }
     assert!(rt; Form::TAG.allows(1, b'-') && !Form::TAG.allows(0, b'-'));
     assert_eq!(rt; Form::KIND.bad_at(b"hood".as_slice()), None);
+    assert!(rt; is_id("id") && !is_id("free"));
     Ok(())
 }
 
@@ -79,43 +51,40 @@ fn texts(rt: HostRuntime) -> Result<(), Fail> {
     let text = Text::new(alloc, "x\n\"😀")?;
     assert_eq!(rt; text.as_str(), "x\n\"😀");
     assert_eq!(rt; text.copy()?, text);
-    assert!(rt; Text::from_string(String::from_str(alloc, "w")?) < text);
+    assert!(rt; Text::of(alloc, "w")? < text);
+    assert_eq!(rt;
+        Text::from_string(String::from_str(alloc, "w")?).as_str(),
+        "w"
+    );
     Ok(())
 }
 
 #[test]
-fn prints_texts_and_errors(rt: HostRuntime) -> Result<(), Fail> {
+fn prints(rt: HostRuntime) -> Result<(), Fail> {
     let alloc = rt.alloc();
     let kind = Kind::new("hood")?;
-    let text = Text::new(alloc, "a\"b")?;
-    let bad = TextError::BadText { at: 2 };
+    let text = Text::of(alloc, "a\"b")?;
     assert_eq!(rt;
-        format!(in alloc; "{kind:>6} {kind:?}")?.as_str(),
-        "  hood \"hood\""
+        format!(in alloc; "{kind:>6} {kind:?} {text} {text:?}")?.as_str(),
+        "  hood \"hood\" a\"b \"a\\\"b\""
     );
+    let bad_text = TextError::BadText { at: 2 };
+    let bad_name = NameError::BadName { at: 8 };
+    let memory = NameError::from(Memory);
     assert_eq!(rt;
-        format!(in alloc; "{text} {text:?}")?.as_str(),
-        "a\"b \"a\\\"b\""
+        format!(in alloc; "{bad_text}; {bad_name}; {memory}")?.as_str(),
+        "the text goes off its form at byte 2; no name goes on at byte 8; out of memory"
     );
-    assert_eq!(rt;
-        format!(in alloc; "{bad}")?.as_str(),
-        "the text goes off its form at byte 2"
-    );
-    let memory = TextError::from(Memory);
-    assert_eq!(rt; format!(in alloc; "{memory}")?.as_str(), "out of memory");
+    let failed = Fault::Failed;
+    assert_eq!(rt; format!(in alloc; "{failed}")?.as_str(), "the call failed");
     Ok(())
 }
 
 #[test]
-fn prints_why_no_name_was_read(rt: HostRuntime) -> Result<(), Fail> {
-    let alloc = rt.alloc();
-    let bad = NameError::BadName { at: 8 };
-    assert_eq!(rt;
-        format!(in alloc; "{bad}")?.as_str(),
-        "no name goes on at byte 8"
-    );
-    let memory = NameError::from(Memory);
-    assert_eq!(rt; format!(in alloc; "{memory}")?.as_str(), "out of memory");
+fn faults(rt: HostRuntime) -> Result<(), Fail> {
+    let mut faults = 0;
+    assert_eq!(rt; count_fault(&mut faults), Fault::Failed);
+    assert_eq!(rt; faults, 1);
     Ok(())
 }
 
@@ -127,13 +96,14 @@ fn sequences(rt: HostRuntime) -> Result<(), Fail> {
     numbers.push(8)?;
     assert_eq!(rt; numbers.len(), 2);
     assert!(rt; numbers == Sequence::from_vec([7, 8].to_vec(numbers.allocator())?));
+    assert!(rt; numbers == numbers.copy()?);
     assert_eq!(rt; numbers.into_vec().as_slice(), [7, 8].as_slice());
     let mut top = Folder {
-        title: Text::new(rt.alloc(), "top")?,
+        title: Text::of(rt.alloc(), "top")?,
         folders: Sequence::new(rt.alloc()),
     };
     top.folders.push(Folder {
-        title: Text::new(rt.alloc(), "inner")?,
+        title: Text::of(rt.alloc(), "inner")?,
         folders: Sequence::new(rt.alloc()),
     })?;
     for inner in top.folders.as_slice() {
@@ -173,8 +143,7 @@ fn names_in_order(rt: HostRuntime) -> Result<(), Fail> {
     let block = name(alloc, &[label("block", "9")?])?;
     let north = name(alloc, &[label("hood", "1")?])?;
     let below = north.child(label("block", "1")?)?;
-    assert!(rt; block < north);
-    assert!(rt; north < below);
+    assert!(rt; block < north && north < below);
     assert!(rt; below == below.copy()?);
     Ok(())
 }
@@ -199,44 +168,12 @@ fn names_as_keys(rt: HostRuntime) -> Result<(), Fail> {
 fn reads_names(rt: HostRuntime) -> Result<(), Fail> {
     let alloc = rt.alloc();
     let space = read_name(alloc, "space-7.block-3.hood-north.city-oakland")?;
-    assert_eq!(rt; space.len(), 4);
     assert_eq!(rt; space.as_slice().first(), Some(&label("city", "oakland")?));
     assert_eq!(rt;
         name_text(alloc, &space)?.as_str(),
         "space-7.block-3.hood-north.city-oakland"
     );
-    let deep = read_name(
-        alloc,
-        "a-1.b-1.c-1.d-1.e-1.f-1.g-1.h-1.i-1.j-1.k-1.l-1.m-1.n-1.o-1.p-1",
-    )?;
-    assert_eq!(rt; deep.len(), 16);
-    Ok(())
-}
-
-#[test]
-fn refuses_names(rt: HostRuntime) -> Result<(), Fail> {
-    let alloc = rt.alloc();
-    let refused = [
-        ("space-7..city-o", 8),
-        ("", 0),
-        ("city", 4),
-        ("city-", 5),
-        ("city-o.", 7),
-        ("-o", 0),
-        ("c1ty-o", 1),
-        ("city-o-p", 6),
-        ("cityhoodblockspacE-1", 16),
-        ("a-abcdefghijklmnopqrstuvwxy", 26),
-        (
-            "a-1.b-1.c-1.d-1.e-1.f-1.g-1.h-1.i-1.j-1.k-1.l-1.m-1.n-1.o-1.p-1.q-1",
-            63,
-        ),
-    ];
-    for (text, at) in refused {
-        assert_eq!(rt;
-            read_name(alloc, text).err(),
-            Some(NameError::BadName { at })
-        );
-    }
+    let bad = NameError::BadName { at: 8 };
+    assert_eq!(rt; read_name(alloc, "space-7..city-o").err(), Some(bad));
     Ok(())
 }

@@ -31,10 +31,17 @@ impl Model for Text {
 }
 
 impl Text {
-    /// A text of its own with the same bytes. Each text is taken.
+    /// A text of its own with the same bytes, as the other texts are made. Each text is taken.
     pub fn new(alloc: Global, text: &str) -> Result<Text, TextError>
         ensures ok { IfOk result (λ made. made ≡ text.now) }
         ensures err { IfErr result (λ e. e ≡ TextError.Memory) }
+    {
+        Ok(Text::of(alloc, text)?)
+    }
+
+    /// A text of its own with the same bytes.
+    pub fn of(alloc: Global, text: &str) -> Mem<Text>
+        ensures { IfOk result (λ made. made ≡ text.now) }
     {
         Ok(Text {
             text: String::from_str(alloc, text)?,
