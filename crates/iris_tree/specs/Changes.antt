@@ -1,10 +1,11 @@
 -- Changes of local information.
-use Rattle.std.specs.Prelude.{◌≡◌, ℕ, ◌+◌, Bool, nat_le, nat_eq, is_some, ◌&&◌, map, List, [], ◌∷◌, length, Option, Some, None, Result, Ok, Err, codes, if◌then◌else◌}
+use Rattle.std.specs.Prelude.{◌≡◌, ℕ, ◌+◌, Bool, nat_le, is_some, ◌&&◌, map, List, [], ◌∷◌, length, Option, Some, None, Result, Ok, Err, codes, if◌then◌else◌}
 use Rattle.std.specs.Option.{option_map_or}
-use Rattle.std.specs.Cmp.Lexicographic.{pointwise}
 use Rattle.serde_json.specs.Data.{Data, string, array}
 use Rattle.serde_json.specs.View.{items_of}
 use Rattle.serde_json.specs.Written.{compact_text}
+use Rattle.iris_base.specs.declared.limits.TheConstants.{MAX_ATTRIBUTES, MAX_LOCAL_BYTES}
+use Rattle.iris_base.specs.Attribute.{is_id}
 use Rattle.iris_tree.specs.declared.local.Local.{Local}
 use Rattle.iris_tree.specs.declared.change.Change.{Change}
 use Rattle.iris_tree.specs.declared.change.Change.TheVariants.{Attr, Drop}
@@ -15,12 +16,9 @@ use Rattle.iris_tree.specs.Attrs.{value_of, with_attr, without_attr}
 
 -- ---- making changes
 
-abbrev pub is_id : List ℕ → Bool
-is_id name = pointwise nat_eq name (codes "id")
-
--- the limits: 64 attributes, and a canonical text of 1,024 bytes
+-- the limits of attributes and of the canonical text
 abbrev pub fits : Local → Bool
-fits l = nat_le (length l.attrs) 64 && nat_le (length (local_text l)) 1024
+fits l = nat_le (length l.attrs) MAX_ATTRIBUTES && nat_le (length (local_text l)) MAX_LOCAL_BYTES
 
 abbrev pub within_limits : Local → Option Local
 within_limits l = if fits l then Some l else None

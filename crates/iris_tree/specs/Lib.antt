@@ -1,9 +1,9 @@
 pub mod Attrs
 pub mod Changes
 pub mod Document
+pub mod Items
 pub mod LocalPut
 pub mod LocalText
-pub mod Messages
 pub mod NodeCode
 pub mod TextLen
 pub mod Universe

@@ -1,11 +1,10 @@
 //! Changes of local information.
 ghost use Rattle.std.specs.Prelude.{◌≡◌, IfOk, IfErr, Some, None, Ok, if◌then◌else◌};
-ghost use Rattle.iris_tree.specs.Changes.{is_id, fits, apply_change, apply_changes, RefusesChanges};
+ghost use Rattle.iris_tree.specs.Changes.{fits, apply_change, apply_changes, RefusesChanges};
 
 use crate::local::Local;
-use iris_base::{Mem, Memory, Tag, Text};
-use std::error::Error;
-use std::fmt;
+use iris_base::{MAX_ATTRIBUTES, MAX_LOCAL_BYTES, Mem, Memory, Tag, Text, is_id};
+use thiserror::Error;
 
 /// One change of a node's local information.
 #[derive(Debug, Drop)]
@@ -17,31 +16,17 @@ pub enum Change {
 }
 
 /// Why no change was made.
-#[derive(Clone, Copy, Debug, PartialEq, Eq, PartialOrd, Ord, Hash)]
+#[derive(Clone, Copy, Debug, PartialEq, Eq, PartialOrd, Ord, Hash, Error)]
 pub enum ChangeError {
     /// The change at that place of the list, counted from 0, is the first that fails: it names an
     /// attribute `id`, drops an attribute that is not there, or leaves more than 64 attributes or a
     /// canonical text of more than 1,024 bytes.
+    #[error("the change at {at} cannot be made")]
     BadChange { at: usize },
     /// There was no memory.
+    #[error("out of memory")]
     Memory,
 }
-
-impl fmt::Display for ChangeError {
-    ghost use Rattle.std.specs.Prelude.{Some};
-    ghost use Rattle.iris_tree.specs.Messages.{change_message};
-
-    ghost output = { λ error. Some (change_message error) };
-
-    fn fmt<W: fmt::Write>(&self, f: &mut fmt::Formatter<W>) -> fmt::Result {
-        match self {
-            ChangeError::BadChange { at } => write!(f, "the change at {at} cannot be made"),
-            ChangeError::Memory => fmt::Display::fmt(&Memory, f),
-        }
-    }
-}
-
-impl Error for ChangeError {}
 
 impl From<Memory> for ChangeError {
     ghost use Rattle.std.specs.Prelude.{◌≡◌};
@@ -69,19 +54,12 @@ impl Change {
     }
 }
 
-// Whether the attribute may not be changed.
-fn is_id(name: &Tag) -> bool
-    ensures { result ≡ is_id name.now }
-{
-    name.as_str() == "id"
-}
-
 impl Local {
     // Whether it is within the limits.
     fn fits(&self) -> bool
         ensures { result ≡ fits self.now }
     {
-        self.attrs.len() <= 64 && self.text_len() <= 1024
+        self.attrs.len() as u64 <= MAX_ATTRIBUTES && self.text_len() <= MAX_LOCAL_BYTES
     }
 
     // Makes one change, unless it fails.
@@ -90,13 +68,13 @@ impl Local {
     {
         match change {
             Change::Attr { name, value } => {
-                if is_id(name) {
+                if is_id(name.as_str()) {
                     return Ok(false);
                 }
                 self.attrs.insert(*name, value.copy()?)?;
             }
             Change::Drop { name } => {
-                if is_id(name) || !self.attrs.remove(name) {
+                if is_id(name.as_str()) || !self.attrs.remove(name) {
                     return Ok(false);
                 }
             }

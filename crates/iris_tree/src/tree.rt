@@ -8,36 +8,21 @@ ghost use Rattle.iris_tree.specs.Document.{with_local};
 ghost use Rattle.iris_tree.specs.LocalPut.{put_below};
 
 use crate::local::Local;
-use iris_base::{Label, Mem, Memory, Name};
+use iris_base::{Label, Mem, Name};
 use std::alloc::{AllocError, AllocFailed, Global};
-use std::error::Error;
-use std::fmt;
 use std::marker::Model;
+use thiserror::Error;
 
 /// Why a child was not added.
-#[derive(Clone, Copy, Debug, PartialEq, Eq)]
+#[derive(Clone, Copy, Debug, PartialEq, Eq, Error)]
 pub enum InsertError {
     /// The node has a child with this label.
+    #[error("the node has a child with this label")]
     Twin,
     /// There was no memory.
+    #[error("out of memory")]
     Memory,
 }
-
-impl fmt::Display for InsertError {
-    ghost use Rattle.std.specs.Prelude.{Some};
-    ghost use Rattle.iris_tree.specs.Messages.{insert_message};
-
-    ghost output = { λ error. Some (insert_message error) };
-
-    fn fmt<W: fmt::Write>(&self, f: &mut fmt::Formatter<W>) -> fmt::Result {
-        match self {
-            InsertError::Twin => f.write_str("the node has a child with this label"),
-            InsertError::Memory => fmt::Display::fmt(&Memory, f),
-        }
-    }
-}
-
-impl Error for InsertError {}
 
 /// A node with all nodes below it. The children of each node stand in the order of their labels, and no
 /// two of them have the same label. Contracts see it as a `Node` of `specs/Universe.antt`.
