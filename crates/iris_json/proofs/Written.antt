@@ -11,13 +11,13 @@ use Rattle.iris_base.specs.declared.name.Label.{Label}
 use Rattle.iris_base.specs.NameText.{name_text}
 use Rattle.iris_tree.specs.LocalText.{attrs_data, plain_data, value_tokens}
 use Rattle.iris_tree.specs.Universe.{Node, node, Nodes, no_nodes, nodes, label_of, local_of, list_of, children_of}
-use Rattle.iris_json.specs.declared.item.Item.{Item}
+use Rattle.iris_tree.specs.declared.item.Item.{Item}
 use Rattle.iris_base.specs.declared.cite.Cite.{Cite}
 use Rattle.iris_json.specs.declared.out.Out.{Out}
 use Rattle.iris_json.specs.declared.city.City.{City}
 use Rattle.iris_json.specs.CityLine.{texts}
 use Rattle.iris_json.specs.CityText.{bare, bare_items, places_data, city_data}
-use Rattle.iris_json.specs.Render.{node_data, nodes_data, item_data, items_data}
+use Rattle.iris_json.specs.Render.{node_data, nodes_data, element_data, item_data, items_data}
 use Rattle.iris_json.specs.Out.{cites_data, out_data}
 
 -- what is written for one value after another
@@ -89,10 +89,10 @@ unfolding value_tokens
 city_written city = refl
 
 -- an item
-pub item_written : (at : List Label) (is : Data) → value_tokens (item_data at is)
-    ≡ Token.begin_object ∷ Token.key (codes "at") ∷ Token.string (name_text at) ∷ Token.key (codes "is") ∷ (value_tokens is ++ Token.end_object ∷ [])
+pub item_written : (i : Item) → value_tokens (item_data i)
+    ≡ Token.begin_object ∷ Token.key (codes "at") ∷ Token.string (name_text i.at) ∷ Token.key (codes "is") ∷ (value_tokens (element_data i.is) ++ Token.end_object ∷ [])
 unfolding value_tokens
-item_written at is = refl
+item_written i = refl
 
 -- an answer
 pub answer_written : (answer : List Item) (cites : List Cite) (newest : Bool) (request : ℕ) → value_tokens (out_data (Out.Answer answer cites newest request))

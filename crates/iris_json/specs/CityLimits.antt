@@ -1,5 +1,6 @@
 -- The limits of a city's nodes: how much of each a tree has, and the first that is passed.
 use Rattle.std.specs.Prelude.{ℕ, suc, max, nat_lt, length, Option, Some, None, if◌then◌else◌}
+use Rattle.iris_base.specs.declared.limits.TheConstants.{MAX_NODES, MAX_LABELS, MAX_CHILDREN, MAX_ATTRIBUTES, MAX_LOCAL_BYTES}
 use Rattle.iris_tree.specs.LocalText.{local_text}
 use Rattle.iris_tree.specs.NodeCode.{size_of}
 use Rattle.iris_tree.specs.TextLen.{saturated}
@@ -46,9 +47,9 @@ above which limit count later = if nat_lt limit count then Some (which, count) e
 -- the first limit of a city's nodes that is passed, and the greatest count found, as a `u64` tells it
 abbrev pub passed : Node → Option (Which × ℕ)
 passed tree =
-    above nodes_limit 20000 (saturated (size_of tree))
-    (above Depth 16 (saturated (levels_of tree))
-    (above Children 2000 (saturated (most_of count_children tree))
-    (above Attributes 64 (saturated (most_of count_attributes tree))
-    (above local_limit 1024 (saturated (most_of count_local tree))
+    above nodes_limit MAX_NODES (saturated (size_of tree))
+    (above Depth MAX_LABELS (saturated (levels_of tree))
+    (above Children MAX_CHILDREN (saturated (most_of count_children tree))
+    (above Attributes MAX_ATTRIBUTES (saturated (most_of count_attributes tree))
+    (above local_limit MAX_LOCAL_BYTES (saturated (most_of count_local tree))
     None))))

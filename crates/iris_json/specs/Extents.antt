@@ -1,5 +1,6 @@
 -- How large a tree is, as it is measured, and what the reader of a city line has read before.
 use Rattle.std.specs.Prelude.{◌≡◌, ℕ, ◌+◌, max, List, Option, None, Result, Ok, Err}
+use Rattle.iris_base.specs.declared.limits.TheConstants.{MAX_NODES, MAX_LABELS, MAX_CHILDREN, MAX_ATTRIBUTES, MAX_LOCAL_BYTES}
 use Rattle.iris_tree.specs.NodeCode.{size_of}
 use Rattle.iris_tree.specs.TextLen.{saturated}
 use Rattle.iris_tree.specs.Universe.{Node}
@@ -34,7 +35,7 @@ with_child tree child = record {
 -- the first limit that is passed, and the count
 abbrev pub passed_by : Extent → Option (Which × ℕ)
 passed_by tree =
-    above Nodes 20000 tree.nodes (above Depth 16 tree.labels (above Children 2000 tree.children (above Attributes 64 tree.attributes (above Local 1024 tree.local None))))
+    above Nodes MAX_NODES tree.nodes (above Depth MAX_LABELS tree.labels (above Children MAX_CHILDREN tree.children (above Attributes MAX_ATTRIBUTES tree.attributes (above Local MAX_LOCAL_BYTES tree.local None))))
 
 -- a reader gives these parts, unless there was no memory
 abbrev pub GivesParts : Result Parts FormError → List (List ℕ) → List ℕ → Node → Type 0

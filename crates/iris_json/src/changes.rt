@@ -9,16 +9,13 @@ ghost use Rattle.iris_json.specs.declared.line.LineWhy.{LineWhy};
 ghost use Rattle.iris_json.specs.Lines.{two, three, IsChange, AreChanges, Refuses};
 
 use crate::line::{LineError, LineWhy};
-use iris_tree::{Change, Sequence, Tag, Text};
+use iris_tree::{Change, MAX_CHANGES, Sequence, Tag, Text};
 use serde_json::Value;
 use std::alloc::Global;
 
 const CHANGE: LineError = LineError::BadLine {
     why: LineWhy::Change,
 };
-
-/// The greatest number of changes of an update.
-const MOST_CHANGES: usize = 64;
 
 // The name of an attribute that a value is.
 fn read_tag(value: &Value) -> Result<Tag, LineError>
@@ -42,10 +39,7 @@ fn read_text(alloc: Global, value: &Value) -> Result<Text, LineError>
     let Some(text) = value.as_str() else {
         return Err(CHANGE);
     };
-    match Text::new(alloc, text) {
-        Ok(text) => Ok(text),
-        Err(_) => Err(LineError::Memory),
-    }
+    Ok(Text::of(alloc, text)?)
 }
 
 // The change that these are: the word `attr`, a name, and the value that it gets.
@@ -93,7 +87,7 @@ pub fn read_changes(alloc: Global, items: &[Value]) -> Result<Sequence<Change>, 
     ensures found { IfOk result (λ changes. AreChanges (items_view items.now) changes) }
     ensures refused { IfErr result (Refuses LineWhy.Change ((changes : List Change) → AreChanges (items_view items.now) changes → ⊥)) }
 {
-    if items.is_empty() || items.len() > MOST_CHANGES {
+    if items.is_empty() || items.len() > MAX_CHANGES {
         return Err(CHANGE);
     }
     let mut changes = Sequence::new(alloc);

@@ -2,6 +2,7 @@
 ghost use Rattle.std.specs.Prelude.{◌≡◌, ◌≤◌, [], ◌∷◌, length, map};
 ghost use Rattle.std.specs.List.{AllByRecursion};
 ghost use Rattle.std.proofs.Props.{props};
+ghost use Rattle.iris_base.specs.declared.limits.TheConstants.{MAX_LABELS, MAX_NODES};
 ghost use Rattle.iris_base.specs.Forms.{IsAgentId};
 ghost use Rattle.iris_tree.specs.NodeCode.{size_of};
 ghost use Rattle.iris_tree.specs.Universe.{label_of};
@@ -11,8 +12,7 @@ use crate::keys::ValueError;
 use crate::out::Which;
 use iris_tree::{AgentId, Kind, Memory, Name, Sequence, Tree};
 use std::alloc::{AllocError, AllocFailed};
-use std::error::Error;
-use std::fmt;
+use thiserror::Error;
 
 /// What is wrong with the form of a city line.
 #[derive(Clone, Copy, Debug, PartialEq, Eq)]
@@ -24,18 +24,22 @@ pub enum CityWhy {
 
 /// Why no city was read. A line has the first of these that fits, in this order: the limit of the line,
 /// no JSON, the form, the limits of the nodes.
-#[derive(Clone, Copy, Debug, PartialEq, Eq)]
+#[derive(Clone, Copy, Debug, PartialEq, Eq, Error)]
 pub enum CityError {
     /// The bytes are no JSON text.
+    #[error("the line is no JSON")]
     NotJson,
     /// The JSON value is not of the form of a city line.
+    #[error("the line is no city line")]
     BadCity { why: CityWhy },
     /// A limit is passed: the line's, or of the nodes the first of `Nodes`, `Depth`, `Children`,
     /// `Attributes` and `Local` that is. `count` is the greatest count found, or `u64::MAX` where it is
     /// more: the bytes of the line, the nodes of the city, the labels of its longest name, the most
     /// children or attributes of a node, the bytes of the longest canonical local information.
+    #[error("the city is past a limit")]
     CityLimit { which: Which, count: u64 },
     /// There was no memory.
+    #[error("out of memory")]
     Memory,
 }
 
@@ -47,24 +51,6 @@ pub enum FormError {
     /// There was no memory.
     Memory,
 }
-
-impl fmt::Display for CityError {
-    ghost use Rattle.std.specs.Prelude.{Some};
-    ghost use Rattle.iris_json.specs.Errors.{city_message};
-
-    ghost output = { λ error. Some (city_message error) };
-
-    fn fmt<W: fmt::Write>(&self, f: &mut fmt::Formatter<W>) -> fmt::Result {
-        match self {
-            CityError::NotJson => f.write_str("the line is no JSON"),
-            CityError::BadCity { .. } => f.write_str("the line is no city line"),
-            CityError::CityLimit { .. } => f.write_str("the city is past a limit"),
-            CityError::Memory => fmt::Display::fmt(&Memory, f),
-        }
-    }
-}
-
-impl Error for CityError {}
 
 impl From<ValueError> for CityError {
     ghost use Rattle.std.specs.Prelude.{◌≡◌};
@@ -156,6 +142,6 @@ pub struct City {
     ghost one_agent: { length agents ≡ 1 },
     ghost agents_fit: { AllByRecursion IsAgentId agents } by { Prim.hlevel props },
     ghost placed: { place ≡ map (λ agent. (label_of tree ∷ [], agent)) agents } by { Prim.hlevel props },
-    ghost nodes_fit: { IsCityNode kinds 16 tree } by { IsCityNode-prop kinds 16 tree },
-    ghost few_nodes: { size_of tree ≤ 20000 },
+    ghost nodes_fit: { IsCityNode kinds MAX_LABELS tree } by { IsCityNode-prop kinds MAX_LABELS tree },
+    ghost few_nodes: { size_of tree ≤ MAX_NODES },
 }

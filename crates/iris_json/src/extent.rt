@@ -3,17 +3,7 @@ ghost use Rattle.std.specs.Prelude.{◌≡◌};
 ghost use Rattle.iris_json.specs.Extents.{extent_of, with_child, passed_by};
 
 use crate::out::Which;
-use iris_tree::Tree;
-
-const MOST_NODES: u64 = 20_000;
-
-const MOST_LABELS: u64 = 16;
-
-const MOST_CHILDREN: u64 = 2_000;
-
-const MOST_ATTRIBUTES: u64 = 64;
-
-const MOST_LOCAL_BYTES: u64 = 1_024;
+use iris_tree::{MAX_ATTRIBUTES, MAX_CHILDREN, MAX_LABELS, MAX_LOCAL_BYTES, MAX_NODES, Tree};
 
 /// How much of each a tree has, or `u64::MAX` where it is more.
 #[derive(Clone, Copy, Debug)]
@@ -63,15 +53,15 @@ impl Extent {
     pub fn passed(&self) -> Option<(Which, u64)>
         ensures { result ≡ passed_by self.now }
     {
-        if self.nodes > MOST_NODES {
+        if self.nodes > MAX_NODES {
             Some((Which::Nodes, self.nodes))
-        } else if self.labels > MOST_LABELS {
+        } else if self.labels > MAX_LABELS as u64 {
             Some((Which::Depth, self.labels))
-        } else if self.children > MOST_CHILDREN {
+        } else if self.children > MAX_CHILDREN {
             Some((Which::Children, self.children))
-        } else if self.attributes > MOST_ATTRIBUTES {
+        } else if self.attributes > MAX_ATTRIBUTES {
             Some((Which::Attributes, self.attributes))
-        } else if self.local > MOST_LOCAL_BYTES {
+        } else if self.local > MAX_LOCAL_BYTES {
             Some((Which::Local, self.local))
         } else {
             None

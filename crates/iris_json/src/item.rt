@@ -4,48 +4,8 @@ ghost use Rattle.serde_json.specs.Written.{compact_text};
 ghost use Rattle.iris_tree.specs.LocalText.{value_tokens};
 ghost use Rattle.iris_json.specs.Render.{node_data, node_front, element_data, item_data, items_data};
 
-use iris_tree::{JsonText, Mem, Name, Plain, Tree, name_text};
+use iris_tree::{Element, Item, JsonText, Mem, Tree, name_text};
 use std::alloc::Global;
-
-/// An element of a document: a node or a plain element, each with all below it.
-#[derive(Debug, Drop)]
-pub enum Element {
-    Node(Tree),
-    Plain(Plain),
-}
-
-impl Element {
-    /// A copy, by the same allocator.
-    pub fn copy(&self) -> Mem<Element>
-        ensures { IfOk result (λ copy. copy ≡ self.now) }
-    {
-        Ok(match self {
-            Element::Node(tree) => Element::Node(tree.copy()?),
-            Element::Plain(plain) => Element::Plain(plain.copy()?),
-        })
-    }
-}
-
-/// An item of an answer.
-#[derive(Debug, Drop)]
-pub struct Item {
-    /// The name of the node at or above the element.
-    pub at: Name,
-    /// The element.
-    pub is: Element,
-}
-
-impl Item {
-    /// A copy, by the same allocator.
-    pub fn copy(&self) -> Mem<Item>
-        ensures { IfOk result (λ copy. copy ≡ self.now) }
-    {
-        Ok(Item {
-            at: self.at.copy()?,
-            is: self.is.copy()?,
-        })
-    }
-}
 
 /// Writes the front of a node: the keys `attrs`, `id`, `kind`, and the beginning of the list at `nodes`.
 pub fn begin_node(tree: &Tree, out: &mut JsonText) -> Mem<()>
@@ -97,7 +57,7 @@ fn put_element(element: &Element, out: &mut JsonText) -> Mem<()>
 // Writes an item: the keys `at` and `is`.
 #[tactic(auto, using(crate::proofs::Written::item_written, std::proofs::lemmas::List::append_assoc))]
 fn put_item(alloc: Global, item: &Item, out: &mut JsonText) -> Mem<()>
-    ensures { OnOk result (out.new ≡ out.old ++ value_tokens (item_data item.now.at (element_data item.now.is))) }
+    ensures { OnOk result (out.new ≡ out.old ++ value_tokens (item_data item.now)) }
 {
     let at = name_text(alloc, &item.at)?;
     out.begin_object()?;

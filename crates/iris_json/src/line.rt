@@ -8,11 +8,10 @@ ghost use Rattle.iris_json.specs.Lines.{TextAt, has_only, IsUpdate, IsWhole, IsL
 
 use crate::changes::read_changes;
 use crate::keys::{Members, ValueError, has_only, list_at, read_value, text_at, value_at};
-use iris_tree::{Change, Memory, Name, NameError, Sequence, Text, read_name};
+use iris_tree::{Change, MAX_NUMBER, Memory, Name, NameError, Sequence, Text, read_name};
 use serde_json::{Number, Value};
 use std::alloc::Global;
-use std::error::Error;
-use std::fmt;
+use thiserror::Error;
 
 /// A line of a script after the first.
 #[derive(Debug, Drop)]
@@ -44,28 +43,35 @@ pub enum Line {
 }
 
 /// What is wrong with a line. Of several faults the first in this order is told.
-#[derive(Clone, Copy, Debug, PartialEq, Eq)]
+#[derive(Clone, Copy, Debug, PartialEq, Eq, Error)]
 pub enum LineWhy {
     /// It is no object, its `do` is unknown, a key is missing or unknown, or a value is of another
     /// JSON type.
+    #[error("the line is no line of a script")]
     Shape,
     /// The text of a name is not that of a name of 1 to 16 labels.
+    #[error("a name in the line is not well formed")]
     Name,
     /// A number is not whole or out of its range.
+    #[error("a number in the line is not whole or not in its range")]
     Number,
     /// The list of changes has none or more than 64, or an item of it is no change: another list than
     /// `["attr",name,value]` or `["drop",name]`, or the name is not of the form of a tag.
+    #[error("the changes in the line are not well formed")]
     Change,
 }
 
 /// Why no line was read.
-#[derive(Clone, Copy, Debug, PartialEq, Eq)]
+#[derive(Clone, Copy, Debug, PartialEq, Eq, Error)]
 pub enum LineError {
     /// The bytes are no JSON text.
+    #[error("the line is no JSON")]
     NotJson,
     /// The line is none of the forms.
+    #[error("{why}")]
     BadLine { why: LineWhy },
     /// There was no memory.
+    #[error("out of memory")]
     Memory,
 }
 
@@ -78,43 +84,6 @@ const NAME: LineError = LineError::BadLine { why: LineWhy::Name };
 const NUMBER: LineError = LineError::BadLine {
     why: LineWhy::Number,
 };
-
-/// The greatest number in a line.
-const MOST_NUMBER: u64 = 1_000_000_000_000_000;
-
-impl fmt::Display for LineError {
-    ghost use Rattle.std.specs.Prelude.{Some};
-    ghost use Rattle.iris_json.specs.Errors.{line_message};
-
-    ghost output = { λ error. Some (line_message error) };
-
-    fn fmt<W: fmt::Write>(&self, f: &mut fmt::Formatter<W>) -> fmt::Result {
-        match self {
-            LineError::NotJson => f.write_str("the line is no JSON"),
-            LineError::BadLine { why } => f.write_str(why.message()),
-            LineError::Memory => fmt::Display::fmt(&Memory, f),
-        }
-    }
-}
-
-impl Error for LineError {}
-
-impl LineWhy {
-    ghost use Rattle.std.specs.Prelude.{◌≡◌};
-    ghost use Rattle.iris_json.specs.Errors.{why_message};
-
-    // What the error prints.
-    fn message(self) -> &'static str
-        ensures { result.now ≡ why_message self }
-    {
-        match self {
-            LineWhy::Shape => "the line is no line of a script",
-            LineWhy::Name => "a name in the line is not well formed",
-            LineWhy::Number => "a number in the line is not whole or not in its range",
-            LineWhy::Change => "the changes in the line are not well formed",
-        }
-    }
-}
 
 impl From<ValueError> for LineError {
     ghost use Rattle.std.specs.Prelude.{◌≡◌};
@@ -168,7 +137,7 @@ fn whole(number: &Number, least: u64) -> Option<u64>
     ensures missing { result ≡ None → (value : ℕ) → IsWhole least (number_view number.now) value → ⊥ }
 {
     let value = number.as_u64()?;
-    if value < least || value > MOST_NUMBER {
+    if value < least || value > MAX_NUMBER {
         return None;
     }
     Some(value)
@@ -186,10 +155,7 @@ fn read_question(alloc: Global, members: &Members) -> Result<Text, LineError>
     let Some(text) = text_at(members, "query") else {
         return Err(SHAPE);
     };
-    match Text::new(alloc, text) {
-        Ok(text) => Ok(text),
-        Err(_) => Err(LineError::Memory),
-    }
+    Ok(Text::of(alloc, text)?)
 }
 
 // What an update's line has at `name`, `no` and `change`, its keys beside `do`.

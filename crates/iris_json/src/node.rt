@@ -12,7 +12,7 @@ ghost use Rattle.iris_json.specs.CityLine.{AttrsAt, LocalAt, NodesAt, LabelAt, O
 
 use crate::city::FormError;
 use crate::keys::{Members, has_only, text_at, value_at};
-use iris_tree::{Attrs, Id, InsertError, Kind, Label, Local, Sequence, Tag, Text, Tree};
+use iris_tree::{Attrs, Id, InsertError, Kind, Label, Local, Sequence, Tag, Text, Tree, is_id};
 use serde_json::Value;
 use std::alloc::Global;
 
@@ -69,7 +69,7 @@ fn read_attr(alloc: Global, name: &str, value: &Value) -> Result<(Tag, Text), Fo
     let Ok(tag) = Tag::new(name) else {
         return Err(FormError::Shape);
     };
-    if tag.as_str() == "id" {
+    if is_id(tag.as_str()) {
         return Err(FormError::Shape);
     }
     let text = String::from_str(alloc, text)?;

@@ -4,8 +4,8 @@ ghost use Rattle.iris_tree.specs.LocalText.{value_tokens};
 ghost use Rattle.iris_json.specs.declared.out.Out.{Out};
 ghost use Rattle.iris_json.specs.Out.{why_word, which_word, cite_data, cites_data, post_data, refused_data, out_data, out_text};
 
-use crate::item::{Item, put_items};
-use iris_tree::{AgentId, Cite, JsonText, Mem, Sequence, name_text};
+use crate::item::put_items;
+use iris_tree::{AgentId, Cite, Item, JsonText, Mem, Sequence, name_text};
 use std::alloc::Global;
 
 /// What is wrong with a script.

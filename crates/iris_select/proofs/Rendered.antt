@@ -1,15 +1,15 @@
 -- What stands at a place, by its name and its path.
 use Rattle.std.proofs.Common.{◌≡◌, ℕ, Bool, true, false, cond, List, [], ◌∷◌, ◌++◌, map, refl, ap, sym, ◌∙◌, Option, Some, None, option_and_then, option_map, slice_get}
 use Rattle.std.specs.Bool.{IsTrue}
-use Rattle.serde_json.specs.Data.{Data}
 use Rattle.iris_base.specs.declared.name.Label.{Label}
 use Rattle.iris_base.specs.NameOrder.{label_eq}
 use Rattle.iris_tree.specs.declared.plain.Plain.{Plain}
 use Rattle.iris_tree.specs.declared.plain.Plain.TheViews.{out-Plain}
-use Rattle.iris_tree.specs.LocalText.{plain_data}
 use Rattle.iris_tree.specs.Universe.{Node, label_of, local_of, children_of, child_of, part_at, node_at}
 use Rattle.iris_tree.specs.Document.{Place, position, place_of, name_of, Part, a_plain, below_plain, below_node, part_at_place}
-use Rattle.iris_json.specs.Render.{node_data, part_data, item_data, item_at}
+use Rattle.iris_tree.specs.declared.item.Element.TheVariants as elements
+use Rattle.iris_tree.specs.declared.item.Item.{Item}
+use Rattle.iris_tree.specs.Items.{item_of, item_at}
 use Rattle.iris_select.specs.Places.{kid_at, element_at}
 
 -- ---- what stands there
@@ -46,27 +46,35 @@ name_is [] [] = refl
 name_is [] (i ∷ path) = refl
 name_is (l ∷ name) path = ap (λ ls. l ∷ ls) (name_is name path)
 
--- the item, where the node at the name is known
-abbrev pub item_by : List Label → List ℕ → Option Node → Option Data
-item_by name path None = None
-item_by name [] (Some n) = Some (item_data name (node_data n))
-item_by name (i ∷ path) (Some n) = option_map (λ p. item_data name (plain_data p)) (element_at (local_of n).plain (i ∷ path))
+-- a plain element as an item
+abbrev pub plain_item : List Label → Plain → Item
+plain_item name p = record { at = name; is = elements.Plain p }
 
-of_part : (name : List Label) (o : Option Plain) → option_map (item_data name) (option_and_then part_data (option_map a_plain o)) ≡ option_map (λ p. item_data name (plain_data p)) o
+-- a node as an item
+abbrev pub node_item : List Label → Node → Item
+node_item name n = record { at = name; is = elements.Node n }
+
+-- the item, where the node at the name is known
+abbrev pub item_by : List Label → List ℕ → Option Node → Option Item
+item_by name path None = None
+item_by name [] (Some n) = Some (node_item name n)
+item_by name (i ∷ path) (Some n) = option_map (plain_item name) (element_at (local_of n).plain (i ∷ path))
+
+of_part : (name : List Label) (o : Option Plain) → option_and_then (item_of name) (option_map a_plain o) ≡ option_map (plain_item name) o
 of_part name None = refl
 of_part name (Some p) = refl
 
-item_there : (name : List Label) (path : List ℕ) (o : Option Node) → option_map (item_data name) (option_and_then part_data (option_and_then (λ m. below_node m (map position path)) o)) ≡ item_by name path o
+item_there : (name : List Label) (path : List ℕ) (o : Option Node) → option_and_then (item_of name) (option_and_then (λ m. below_node m (map position path)) o) ≡ item_by name path o
 item_there name path None = refl
 item_there name [] (Some n) = refl
-item_there name (i ∷ path) (Some n) = ap (λ (o : Option Part). option_map (item_data name) (option_and_then part_data o)) (element_is n i path) ∙ of_part name (element_at (local_of n).plain (i ∷ path))
+item_there name (i ∷ path) (Some n) = ap (λ (o : Option Part). option_and_then (item_of name) o) (element_is n i path) ∙ of_part name (element_at (local_of n).plain (i ∷ path))
 
 pub item_is : (document : Node) (name : List Label) (path : List ℕ) → item_at document (place_of name ++ map position path) ≡ item_by name path (node_at document name)
 item_is document [] [] = refl
 item_is document [] (i ∷ path) = refl
 item_is document (l ∷ name) path =
-    ap (λ (m : List Label). option_map (item_data m) (option_and_then part_data (part_at_place document (place_of (l ∷ name) ++ map position path)))) (name_is (l ∷ name) path)
-    ∙ ap (λ (o : Option Part). option_map (item_data (l ∷ name)) (option_and_then part_data o)) (part_is document l name (map position path)) ∙ item_there (l ∷ name) path (node_at document (l ∷ name))
+    ap (λ (m : List Label). option_and_then (item_of m) (part_at_place document (place_of (l ∷ name) ++ map position path))) (name_is (l ∷ name) path)
+    ∙ ap (λ (o : Option Part). option_and_then (item_of (l ∷ name)) o) (part_is document l name (map position path)) ∙ item_there (l ∷ name) path (node_at document (l ∷ name))
 
 -- ---- for the code
 
@@ -76,17 +84,17 @@ item_none document name path none = ap (item_by name path) none ∙ sym (item_is
 
 -- a node at the place
 pub item_node : (document : Node) (name at : List Label) (path : List ℕ) (n copy : Node) → Some n ≡ node_at document name → path ≡ [] → at ≡ name → copy ≡ n
-    → Some (item_data at (node_data copy)) ≡ item_at document (place_of name ++ map position path)
+    → Some (node_item at copy) ≡ item_at document (place_of name ++ map position path)
 item_node document name at path n copy found none named copied =
-    ap (λ (m : List Label). Some (item_data m (node_data copy))) named ∙ ap (λ (m : Node). Some (item_data name (node_data m))) copied
+    ap (λ (m : List Label). Some (node_item m copy)) named ∙ ap (λ (m : Node). Some (node_item name m)) copied
     ∙ ap (item_by name []) found ∙ ap (λ (is : List ℕ). item_by name is (node_at document name)) (sym none) ∙ sym (item_is document name path)
 
-plain_by : (name : List Label) (path : List ℕ) (n : Node) → (path ≡ [] → IsTrue false) → item_by name path (Some n) ≡ option_map (λ p. item_data name (plain_data p)) (element_at (local_of n).plain path)
+plain_by : (name : List Label) (path : List ℕ) (n : Node) → (path ≡ [] → IsTrue false) → item_by name path (Some n) ≡ option_map (plain_item name) (element_at (local_of n).plain path)
 plain_by name [] n some = let h : IsTrue false = some refl in absurd (cc)
 plain_by name (i ∷ path) n some = refl
 
 -- a plain element at the place, or none
 pub item_plain : (document : Node) (name : List Label) (path : List ℕ) (n : Node) (o : Option Plain) → Some n ≡ node_at document name → (path ≡ [] → IsTrue false) → o ≡ element_at (local_of n).plain path
-    → option_map (λ p. item_data name (plain_data p)) o ≡ item_at document (place_of name ++ map position path)
+    → option_map (plain_item name) o ≡ item_at document (place_of name ++ map position path)
 item_plain document name path n o found some there =
-    ap (option_map (λ p. item_data name (plain_data p))) there ∙ sym (plain_by name path n some) ∙ ap (item_by name path) found ∙ sym (item_is document name path)
+    ap (option_map (plain_item name)) there ∙ sym (plain_by name path n some) ∙ ap (item_by name path) found ∙ sym (item_is document name path)

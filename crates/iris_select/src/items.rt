@@ -1,14 +1,14 @@
 //! The items at places, and the answer of a query as JSON.
-ghost use Rattle.std.specs.Prelude.{◌≡◌, map, IfOk, option_copied, option_map, slice_get};
-ghost use Rattle.std.specs.List.{filter_map};
-ghost use Rattle.iris_json.specs.Render.{element_data, item_data, item_at, rendered};
+ghost use Rattle.std.specs.Prelude.{◌≡◌, map, IfOk, option_copied, slice_get};
+ghost use Rattle.iris_tree.specs.Items.{item_at, items_at};
+ghost use Rattle.iris_json.specs.Render.{rendered};
 ghost use Rattle.iris_xpath.specs.Meaning.{selected};
 ghost use Rattle.iris_select.specs.Places.{edges_of, element_at};
 
 use crate::place::Place;
 use crate::walk::select;
-use iris_json::{Element, Item, write_items};
-use iris_tree::{Local, Mem, Plain, Tree};
+use iris_json::write_items;
+use iris_tree::{Element, Item, Local, Mem, Plain, Tree};
 use iris_xpath::Query;
 use std::alloc::Global;
 
@@ -33,7 +33,7 @@ fn plain_at<'a>(local: &'a Local, path: &[u32]) -> Option<&'a Plain>
 
 // The item at a place; none where nothing is there.
 fn item_at(tree: &Tree, place: &Place) -> Mem<Option<Item>>
-    ensures { IfOk result (λ item. option_map (λ i. item_data i.at (element_data i.is)) item ≡ item_at tree.now (edges_of place.now)) }
+    ensures { IfOk result (λ item. item ≡ item_at tree.now (edges_of place.now)) }
 {
     let Some(node) = tree.find(&place.name) else {
         return Ok(None);
@@ -55,7 +55,7 @@ fn item_at(tree: &Tree, place: &Place) -> Mem<Option<Item>>
 
 /// The items at these places, in their order. A place at which nothing is gives none.
 pub fn items_at(alloc: Global, tree: &Tree, places: &[Place]) -> Mem<Vec<Item>>
-    ensures { IfOk result (λ items. map (λ i. item_data i.at (element_data i.is)) items.items ≡ filter_map (item_at tree.now) (map edges_of places.now)) }
+    ensures { IfOk result (λ items. items.items ≡ items_at tree.now (map edges_of places.now)) }
 {
     let mut items = Vec::with_capacity(alloc, places.len())?;
     for place in places {

@@ -12,7 +12,7 @@ ghost use Rattle.iris_select.specs.Places.{edges_of};
 ghost use Rattle.iris_xpath.specs.Walk.{led_to, all_led_to, names_from, looked_at, all_looked_at, IsOnlyFor};
 
 use crate::place::Place;
-use iris_tree::{Id, Label, Mem, Name, Sequence, Tree};
+use iris_tree::{Id, Label, Mem, Name, Sequence, Tree, is_id};
 use iris_xpath::{Expression, Query, Step};
 use std::alloc::Global;
 
@@ -34,13 +34,6 @@ struct Tested {
     passes: bool,
     // A predicate that was evaluated is on another attribute than `@id`.
     looks: bool,
-}
-
-// Whether it is the name of `@id`, which is told by the label and needs no look at the node.
-fn is_id(name: &str) -> bool
-    ensures { result ≡ bytes_eq name.now (codes "id") }
-{
-    name == "id"
 }
 
 // Whether the attribute of that name has that text at a node.

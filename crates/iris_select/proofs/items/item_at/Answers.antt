@@ -2,11 +2,9 @@ use Rattle.std.proofs.Common.{◌≡◌, ◌∙◌, List, ℕ, None, Some, ap}
 use Rattle.iris_base.specs.declared.name.Label.{Label}
 use Rattle.iris_tree.specs.declared.local.Local.{Local}
 use Rattle.iris_tree.specs.declared.plain.Plain.{Plain}
-use Rattle.iris_tree.specs.LocalText.{plain_data}
 use Rattle.iris_tree.specs.Universe.{local_of}
-use Rattle.iris_json.specs.Render.{item_data}
 use Rattle.iris_select.specs.Places.{element_at}
-use Rattle.iris_select.proofs.Rendered.{item_none, item_node, item_plain}
+use Rattle.iris_select.proofs.Rendered.{plain_item, item_none, item_node, item_plain}
 use Rattle.iris_select.proofs.items.item_at.Goals as goal
 
 pub returns-in_default : goal.returns-in_default
@@ -19,8 +17,8 @@ pub returns-in_ok-copy-in-Some-plain_at-2 : goal.returns-in_ok-copy-in-Some-plai
 returns-in_ok-copy-in-Some-plain_at-2 c =
     let there : Some c.in-Some-plain_at.plain.now ≡ element_at (local_of c.in-Some.node.now).plain c.args.place.now.path =
     c.in-Some-plain_at.ensures ∙ ap (λ (l : Local). element_at l.plain c.as_slice.result.now) c.local.ensures ∙ ap (λ (path : List ℕ). element_at (local_of c.in-Some.node.now).plain path) c.as_slice.ensures in
-    ap (λ (m : List Label). Some (item_data m (plain_data c.in_ok-copy-in-Some-plain_at-2.field-0))) c.in_ok-copy-in-Some-plain_at.ensures
-    ∙ ap (λ (p : Plain). Some (item_data c.args.place.now.name (plain_data p))) c.in_ok-copy-in-Some-plain_at-2.ensures
+    ap (λ (m : List Label). Some (plain_item m c.in_ok-copy-in-Some-plain_at-2.field-0)) c.in_ok-copy-in-Some-plain_at.ensures
+    ∙ ap (λ (p : Plain). Some (plain_item c.args.place.now.name p)) c.in_ok-copy-in-Some-plain_at-2.ensures
     ∙ item_plain c.args.tree.now c.args.place.now.name c.args.place.now.path c.in-Some.node.now (Some c.in-Some-plain_at.plain.now) c.in-Some.ensures c.if-is_empty.ensures.1 there
 
 pub returns-in-None : goal.returns-in-None
