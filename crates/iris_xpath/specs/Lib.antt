@@ -2,7 +2,6 @@ pub mod Follows
 pub mod Gives
 pub mod Grammar
 pub mod Meaning
-pub mod Message
 pub mod PlaceOrder
 pub mod Places
 pub mod Syntax

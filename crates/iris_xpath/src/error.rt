@@ -2,33 +2,18 @@
 
 use iris_base::Memory;
 use std::alloc::AllocError;
-use std::error::Error;
-use std::fmt;
+use thiserror::Error;
 
 /// Why a text is not read as a query.
-#[derive(Clone, Copy, Debug, PartialEq, Eq, PartialOrd, Ord, Hash)]
+#[derive(Clone, Copy, Debug, PartialEq, Eq, PartialOrd, Ord, Hash, Error)]
 pub enum QueryError {
     /// The text is not of the thin form, or passes one of its limits.
+    #[error("the text is no query of the thin form")]
     Later,
     /// There was no memory.
+    #[error("out of memory")]
     Memory,
 }
-
-impl fmt::Display for QueryError {
-    ghost use Rattle.std.specs.Prelude.{Some};
-    ghost use Rattle.iris_xpath.specs.Message.{message};
-
-    ghost output = { λ error. Some (message error) };
-
-    fn fmt<W: fmt::Write>(&self, f: &mut fmt::Formatter<W>) -> fmt::Result {
-        match self {
-            QueryError::Later => f.write_str("the text is no query of the thin form"),
-            QueryError::Memory => fmt::Display::fmt(&Memory, f),
-        }
-    }
-}
-
-impl Error for QueryError {}
 
 impl From<Memory> for QueryError {
     ghost use Rattle.std.specs.Prelude.{◌≡◌};
