@@ -1,4 +1,4 @@
-pub mod AttrLookups
+pub mod AttrPlaces
 pub mod Counted
 pub mod LocalsPut
 pub mod Siblings

@@ -1,5 +1,8 @@
 -- Attributes as the list of their names and values, in the order of the names.
-use Rattle.std.specs.Prelude.{ℕ, List, Option, Bool, nat_eq, ◌&&◌}
+use Rattle.std.specs.Prelude.{◌≡◌, ℕ, ◌<◌, ◌≤◌, List, length, map, slice_index_or, Option, Bool, nat_eq, ◌&&◌}
+use Rattle.std.specs.declared.cmp.Ordering.{Ordering}
+use Rattle.std.specs.declared.cmp.Ordering.TheVariants.{Less, Equal, Greater}
+use Rattle.std.specs.List.Sorted.{IsStrictlySortedBy}
 use Rattle.std.specs.Ordering.{nat_cmp}
 use Rattle.std.specs.Cmp.Lexicographic.{slice_cmp, pointwise, nat_list_eq_equiv}
 use Rattle.std.specs.Cmp.{IsEquivalence, on_equiv, and_equiv}
@@ -20,6 +23,30 @@ with_attr pairs name value = insert_entry (slice_cmp nat_cmp) pairs name value
 -- the attributes but that of that name
 abbrev pub without_attr : Pairs → List ℕ → Pairs
 without_attr pairs name = remove_entry (is_at (slice_cmp nat_cmp name)) pairs
+
+-- ---- their order
+
+-- the order of names
+abbrev pub name_cmp : List ℕ → List ℕ → Ordering
+name_cmp = slice_cmp nat_cmp
+
+-- the names rise, so no two attributes have the same one
+abbrev pub AreInNameOrder : Pairs → Type 0
+AreInNameOrder pairs = IsStrictlySortedBy name_cmp (map (λ pair. pair.0) pairs)
+
+-- the names before that place are less
+abbrev pub AreLessUpTo : ℕ → Pairs → List ℕ → Type 0
+AreLessUpTo at pairs name = (i : ℕ) (d : List ℕ × List ℕ) → i < at → name_cmp name (slice_index_or pairs i d).0 ≡ Greater
+
+-- the attribute of that name stands at that place
+abbrev pub StandsAt : Pairs → List ℕ → ℕ → Type 0
+StandsAt pairs name at = (at < length pairs) × AreLessUpTo at pairs name × ((d : List ℕ × List ℕ) → name_cmp name (slice_index_or pairs at d).0 ≡ Equal)
+
+-- no attribute has that name, and one that had it would stand at that place
+abbrev pub WouldStandAt : Pairs → List ℕ → ℕ → Type 0
+WouldStandAt pairs name at = (at ≤ length pairs) × AreLessUpTo at pairs name × ((d : List ℕ × List ℕ) → at < length pairs → name_cmp name (slice_index_or pairs at d).0 ≡ Less)
+
+-- ---- equality
 
 -- the same name and the same value
 abbrev pub pair_eq : List ℕ × List ℕ → List ℕ × List ℕ → Bool

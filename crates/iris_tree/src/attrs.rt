@@ -1,27 +1,45 @@
 //! Attributes of nodes and of plain elements.
-ghost use Rattle.std.specs.Prelude.{◌≡◌, ◌↔◌, [], length, IfOk, OnOk, OnErr, IsTrue, is_some, option_map};
+ghost use Rattle.std.specs.Prelude.{◌≡◌, ◌↔◌, [], length, IfOk, IfErr, OnOk, OnErr, IsTrue, is_some, option_map};
 ghost use Rattle.std.specs.Cmp.Lexicographic.{pointwise, lists_equiv};
 ghost use Rattle.std.specs.Cmp.{partial_equiv_from_equiv};
-ghost use Rattle.iris_tree.specs.Attrs.{pair_eq, pair_equiv, value_of, with_attr, without_attr};
+ghost use Rattle.iris_tree.specs.Attrs.{pair_eq, pair_equiv, value_of, with_attr, without_attr, AreInNameOrder, StandsAt, WouldStandAt};
 
 use iris_base::{Mem, Tag, Text};
 use std::alloc::Global;
-use std::collections::BTreeMap;
+use std::cmp::Ordering;
 use std::marker::Model;
 
 /// The attributes of an element, seen as the list of their names and values in the order of the bytes of
-/// the names.
+/// the names. Elements have few, so they lie in one block and are looked up one after another.
 #[derive(Debug, Drop)]
 pub struct Attrs {
-    map: BTreeMap<Tag, Text>,
+    pairs: Vec<(Tag, Text)>,
 }
 
 impl Model for Attrs {
     ghost use Rattle.std.specs.Prelude.{ℕ, List};
+    ghost use Rattle.iris_tree.specs.Attrs.{AreInNameOrder};
 
     ghost Value = { List (List ℕ × List ℕ) };
 
-    ghost view = { λ a. a.map.entries };
+    ghost view = { λ a. a.pairs.items };
+
+    ghost invariant = { λ a. AreInNameOrder a.pairs.items };
+}
+
+// The place of the attribute of that name, or the place that one of that name would have.
+fn place_of(pairs: &[(Tag, Text)], name: &str) -> Result<usize, usize>
+    ensures there { IfOk result (StandsAt pairs.now name.now) }
+    ensures absent { IfErr result (WouldStandAt pairs.now name.now) }
+{
+    for (at, pair) in pairs.iter().enumerate() {
+        match name.cmp(pair.0.as_str()) {
+            Ordering::Less => return Err(at),
+            Ordering::Equal => return Ok(at),
+            Ordering::Greater => {}
+        }
+    }
+    Err(pairs.len())
 }
 
 impl Attrs {
@@ -30,7 +48,7 @@ impl Attrs {
         ensures { result ≡ [] }
     {
         Attrs {
-            map: BTreeMap::new(alloc),
+            pairs: Vec::new(alloc),
         }
     }
 
@@ -38,33 +56,32 @@ impl Attrs {
     pub fn len(&self) -> usize
         ensures { result ≡ length self.now }
     {
-        self.map.len()
+        self.pairs.len()
     }
 
     /// Whether there is none.
     pub fn is_empty(&self) -> bool
         ensures { IsTrue result ↔ (self.now ≡ []) }
     {
-        self.map.is_empty()
+        self.pairs.is_empty()
     }
 
-    /// The names and values as a map.
-    pub fn as_map(&self) -> &BTreeMap<Tag, Text>
-        ensures { result.now.entries ≡ self.now }
+    /// The names and values, in the order of the names.
+    pub fn as_slice(&self) -> &[(Tag, Text)]
+        ensures value { result.now ≡ self.now }
+        ensures ordered { AreInNameOrder self.now }
     {
-        &self.map
+        self.pairs.as_slice()
     }
 
     /// The value of the attribute of that name. A name that is no tag has none.
     pub fn get(&self, name: &str) -> Option<&str>
         ensures { option_map (λ value. value.now) result ≡ value_of self.now name.now }
     {
-        for (tag, value) in self.map.iter() {
-            if tag.as_str() == name {
-                return Some(value.as_str());
-            }
+        match place_of(&self.pairs, name) {
+            Ok(at) => Some(self.pairs[at].1.as_str()),
+            Err(_) => None,
         }
-        None
     }
 
     /// Gives the attribute of that name that value, also where it has another.
@@ -72,25 +89,34 @@ impl Attrs {
         ensures ok { OnOk result (self.new ≡ with_attr self.old name value) }
         ensures err { OnErr result (self.new ≡ self.old) }
     {
-        self.map.insert(name, value)?;
+        match place_of(&self.pairs, name.as_str()) {
+            Ok(at) => self.pairs[at].1 = value,
+            Err(at) => self.pairs.insert(at, (name, value))?,
+        }
         Ok(())
     }
 
-    /// Takes the attribute of that name away, and says whether there was one. It takes no memory.
+    /// Takes the attribute of that name away, and returns whether there was one. It takes no memory.
     pub fn remove(&mut self, name: &Tag) -> bool
         ensures was { result ≡ is_some (value_of self.old name.now) }
         ensures attrs { self.new ≡ without_attr self.old name.now }
     {
-        self.map.remove(name).is_some()
+        let Ok(at) = place_of(&self.pairs, name.as_str()) else {
+            return false;
+        };
+        self.pairs.remove(at);
+        true
     }
 
-    /// A copy, by the same allocator.
+    /// A copy, by the same allocator. It has room for no more attributes.
     pub fn copy(&self) -> Mem<Attrs>
         ensures { IfOk result (λ copy. copy ≡ self.now) }
     {
-        Ok(Attrs {
-            map: self.map.clone()?,
-        })
+        let mut pairs = Vec::with_capacity(*self.pairs.allocator(), self.pairs.len())?;
+        for (name, value) in &self.pairs {
+            pairs.push((*name, value.copy()?))?;
+        }
+        Ok(Attrs { pairs })
     }
 }
 
@@ -100,7 +126,7 @@ impl PartialEq for Attrs {
     ghost laws = { partial_equiv_from_equiv (lists_equiv pair_equiv) };
 
     fn eq(&self, other: &Attrs) -> bool {
-        self.map == other.map
+        self.pairs == other.pairs
     }
 }
 

@@ -23,7 +23,7 @@ impl Attrs {
     fn count_members(&self, counter: &mut Counter)
         ensures { counter.new ≡ counted counter.old (flat_map pair_tokens self.now) }
     {
-        for (name, value) in self.as_map() {
+        for (name, value) in self.as_slice() {
             counter.key(name.as_str());
             counter.string(value.as_str());
         }

@@ -98,7 +98,7 @@ fn attributes_anew(rt: HostRuntime) -> Result<(), Fail> {
     let alloc = rt.alloc();
     let mut attrs = attr(alloc, "free", "no")?;
     attrs.insert(Tag::new("free")?, Text::new(alloc, "yes")?)?;
-    assert_eq!(rt; attrs.as_map().len(), 1);
+    assert_eq!(rt; attrs.as_slice().len(), 1);
     assert_eq!(rt; attrs.get("free"), Some("yes"));
     Ok(())
 }

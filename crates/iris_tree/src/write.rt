@@ -26,7 +26,7 @@ impl Attrs {
     fn write_members(&self, out: &mut JsonText) -> Mem<()>
         ensures { OnOk result (out.new ≡ out.old ++ flat_map pair_tokens self.now) }
     {
-        for (name, value) in self.as_map() {
+        for (name, value) in self.as_slice() {
             out.key(name.as_str())?;
             out.string(value.as_str())?;
         }
