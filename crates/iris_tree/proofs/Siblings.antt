@@ -1,16 +1,20 @@
--- Siblings in the order of their labels: where a search ends among them, and one more of them.
-use Rattle.std.proofs.Common.{◌≡◌, ℕ, zero, suc, ◌<◌, ◌≤◌, Bool, true, false, if◌then◌else◌, List, [], ◌∷◌, length, get_or, Option, Some, None, IsSome, Result, Ok, Err, IfOk, IfErr, refl, sym, ◌∙◌, ap, subst, arith, inl, inr, ◌⊎◌}
+-- Siblings in the order of their labels: where a search ends among them, one more of them, and a list put into this order.
+use Rattle.std.proofs.Common.{◌≡◌, ℕ, zero, suc, ◌<◌, ◌≤◌, Bool, true, false, if◌then◌else◌, List, [], ◌∷◌, length, get_or, Option, Some, None, IsSome, Result, Ok, Err, IfOk, IfErr, refl, sym, ◌∙◌, ap, subst, arith, inl, inr, ◌⊎◌, not, ◌+◌}
 use Rattle.std.specs.declared.cmp.Ordering.{Ordering}
 use Rattle.std.specs.declared.cmp.Ordering.TheVariants.{Less, Equal, Greater}
 use Rattle.std.specs.Ordering.{ordering_index, ordering_reverse, is_eq, is_lt}
-use Rattle.std.specs.List.{insert, AllByRecursion}
-use Rattle.std.specs.List.Sorted.{IsStrictlySortedBy, IsBinarySearchResult, IsSearchInRange, IsNonDecreasingBy}
-use Rattle.std.proofs.lemmas.Map.Keys.{Less-from_sorted}
+use Rattle.std.specs.List.{insert, All, AllByRecursion, AllAdjacentBelow, IsAllAdjacentAnswer, Contains, IsDistinct}
+use Rattle.std.specs.List.Sorted.{IsStrictlySortedBy, IsBinarySearchResult, IsSearchInRange, IsNonDecreasingBy, IsPermutation, IsSortedBy}
+use Rattle.std.proofs.lemmas.Map.Keys.{Less-from_sorted, sorted_from_all_adjacent, IsDistinct-from_sorted, IsDistinct-IsPermutation}
+use Rattle.std.proofs.lemmas.List.Sorted.{IsPermutation-refl, IsPermutation-sym, IsPermutation-map, Contains-permutation, All-permutation}
+use Rattle.std.proofs.lemmas.List.Elements.{All-from_recursion}
 use Rattle.std.proofs.lemmas.Bool.{cases_lt}
 use Rattle.iris_base.specs.declared.name.Label.{Label}
-use Rattle.iris_base.specs.NameOrder.{label_cmp, label_eq, labels_total, labels_ties}
+use Rattle.iris_base.specs.NameOrder.{label_cmp, label_eq, labels_equiv, labels_total, labels_ties}
 use Rattle.iris_tree.specs.declared.local.Local.{Local}
-use Rattle.iris_tree.specs.Universe.{Node, node, nodes_of, list_of, label_of, labels_of, child_of, insert_node, with_child, IsGap, AllAfter, IsOrdered, AreOrdered}
+use Rattle.iris_tree.specs.Universe.{Node, node, nodes_of, list_of, label_of, local_of, children_of, labels_of, child_of, insert_node, with_child, IsGap, AllAfter, IsOrdered, AreOrdered}
+use Rattle.iris_tree.specs.NodeCode.{nodes_of-list_of}
+use Rattle.iris_tree.specs.Siblings.{HaveDistinctLabels, IsLabelOrder}
 
 pub list_of-nodes_of : (ns : List Node) → list_of (nodes_of ns) ≡ ns
 list_of-nodes_of [] = refl
@@ -122,7 +126,8 @@ unfolding IsStrictlySortedBy
 labels_sorted [] h = tt
 labels_sorted (n ∷ ns) h = (labels_after (label_of n) ns h.1, labels_sorted ns h.2)
 
-all_after : (x : Label) (child : Node) (ns : List Node) → label_cmp x (label_of child) ≡ Less → AllAfter x (nodes_of ns) → AllAfter x (nodes_of (insert_node child ns))
+-- a node with a greater label than x keeps all labels after x
+pub all_after : (x : Label) (child : Node) (ns : List Node) → label_cmp x (label_of child) ≡ Less → AllAfter x (nodes_of ns) → AllAfter x (nodes_of (insert_node child ns))
 all_after x child [] before h = (before, tt)
 all_after x child (n ∷ ns) before h =
     elim (is_lt (label_cmp (label_of child) (label_of n))) as (λ (b : Bool). AllAfter x (nodes_of (if b then child ∷ n ∷ ns else n ∷ insert_node child ns))) [
@@ -130,7 +135,8 @@ all_after x child (n ∷ ns) before h =
       | false ↦ (h.0, all_after x child ns before h.1)
     ]
 
-all_before : (x y : Label) (ns : List Node) → label_cmp x y ≡ Less → AllAfter y (nodes_of ns) → AllAfter x (nodes_of ns)
+-- what is after y is after any x before y
+pub all_before : (x y : Label) (ns : List Node) → label_cmp x y ≡ Less → AllAfter y (nodes_of ns) → AllAfter x (nodes_of ns)
 all_before x y [] before h = tt
 all_before x y (n ∷ ns) before h = (labels_total.trans x y (label_of n) before h.0, all_before x y ns before h.1)
 
@@ -188,3 +194,145 @@ pub inserted_view : (x label : Label) (local : Local) (self : Node) (siblings ol
 inserted_view x label local self siblings old new child at done items is_done label_is same within gap view =
     let left = inserted x siblings old new child at done items is_done label_is same within gap in
     ap (λ (ns : List Node). node label local (nodes_of ns)) (left.0 ∙ ap (insert_node child) (sym (list_of-nodes_of old))) ∙ ap (λ (n : Node). with_child n child) view
+
+-- ---- all siblings at once
+
+-- a node is its parts
+pub node_parts : (n : Node) → node (label_of n) (local_of n) (nodes_of (children_of n)) ≡ n
+node_parts (node label local below) = ap (node label local) (nodes_of-list_of below)
+
+-- the test that a sort of siblings goes by
+abbrev pub is_before : Node → Node → Bool
+is_before m n = is_lt (label_cmp (label_of m) (label_of n))
+
+is_less : (o : Ordering) → true ≡ is_lt o → o ≡ Less
+is_less Less h = refl
+is_less Equal h = absurd (cc)
+is_less Greater h = absurd (cc)
+
+-- labels that rise from each node to the next rise over the whole list
+pub labels_rise : (ns : List Node) → AllAdjacentBelow (λ m n. true ≡ is_before m n) ns (length ns) → IsStrictlySortedBy label_cmp (labels_of ns)
+unfolding IsStrictlySortedBy
+labels_rise [] h = tt
+labels_rise (n ∷ ns) h = sorted_from_all_adjacent labels_total (labels_of (n ∷ ns)) (label_of n) (λ k lt. rw (label_at (n ∷ ns) k n, label_at (n ∷ ns) (k + 1) n) (is_less _ (h k n (omega (arith, length-labels_of (n ∷ ns))))))
+
+neither_less : (a b : Label) (o : Ordering) → label_cmp a b ≡ o → is_lt o ≡ false → is_lt (label_cmp b a) ≡ false → label_eq a b ≡ true
+neither_less a b Less same h g = absurd (cc)
+neither_less a b Equal same h g = equal_label a b same
+neither_less a b Greater same h g = let back : is_lt (label_cmp b a) ≡ true = ap is_lt (less a b same) in absurd (cc)
+
+distinct_at : (ks : List Label) (i j : ℕ) (d : Label) → IsDistinct label_eq ks → i < j → j < length ks → label_eq (get_or ks i d) (get_or ks j d) ≡ false
+unfolding IsDistinct
+distinct_at [] i j d h lt within = absurd (omega arith)
+distinct_at (a ∷ ks) i zero d h lt within = absurd (omega arith)
+distinct_at (a ∷ ks) zero (suc j) d h lt within = All-from_recursion (λ b. label_eq a b ≡ false) ks h.0 j d (omega arith)
+distinct_at (a ∷ ks) (suc i) (suc j) d h lt within = distinct_at ks i j d h.1 (omega arith) (omega arith)
+
+distinct_moved : (xs ys : List Node) → IsPermutation xs ys → HaveDistinctLabels xs → HaveDistinctLabels ys
+distinct_moved xs ys moved distinct = IsDistinct-IsPermutation label_eq labels_equiv.symm (labels_of xs) (labels_of ys) (IsPermutation-map label_of xs ys moved) distinct
+
+-- where a sort leaves a label that is not less than the next one, two of the sorted nodes have the same label
+pub twins_stay : (given sorted : List Node) → IsPermutation given sorted → IsSortedBy is_before sorted → (k : ℕ) × (k + 1 < length sorted) × ((d : Node) → false ≡ is_before (get_or sorted k d) (get_or sorted (k + 1) d)) → HaveDistinctLabels given → ⊥
+twins_stay given [] moved up stuck distinct = let within = stuck.1 in absurd (omega arith)
+twins_stay given (n ∷ ns) moved up stuck distinct =
+    let k = stuck.0 in
+    let ks = labels_of (n ∷ ns) in
+    let within : k + 1 < length ks = omega (arith, stuck.1, length-labels_of (n ∷ ns)) in
+    let apart = distinct_at ks k (k + 1) (label_of n) (distinct_moved given (n ∷ ns) moved distinct) (omega arith) within in
+    let a = label_of (get_or (n ∷ ns) k n) in
+    let b = label_of (get_or (n ∷ ns) (k + 1) n) in
+    let twins : label_eq a b ≡ true = neither_less a b (label_cmp a b) refl (sym (stuck.2 n)) (up k n (omega arith) stuck.1) in
+    let other : label_eq a b ≡ false = ap (λ (l : Label). label_eq l b) (sym (label_at (n ∷ ns) k n)) ∙ ap (label_eq (get_or ks k (label_of n))) (sym (label_at (n ∷ ns) (k + 1) n)) ∙ apart in
+    cc
+
+-- what a test of the sorted nodes for rising labels says at its two answers
+pub twins_told : (given sorted shown : List Node) (answer : Bool) → IsPermutation given sorted → IsSortedBy is_before sorted → shown ≡ sorted → answer ≡ false → IsAllAdjacentAnswer (λ m n b. b ≡ is_before m n) shown answer → HaveDistinctLabels given → ⊥
+twins_told given sorted shown true moved up same told stuck distinct = absurd (cc)
+twins_told given sorted shown false moved up same told stuck distinct =
+    twins_stay given sorted moved up (subst (λ (ns : List Node). (k : ℕ) × (k + 1 < length ns) × ((d : Node) → false ≡ is_before (get_or ns k d) (get_or ns (k + 1) d))) same stuck) distinct
+
+pub rising_told : (sorted shown : List Node) (answer : Bool) → shown ≡ sorted → answer ≡ true → IsAllAdjacentAnswer (λ m n b. b ≡ is_before m n) shown answer → IsStrictlySortedBy label_cmp (labels_of sorted)
+rising_told sorted shown true same told rise = subst (λ (ns : List Node). IsStrictlySortedBy label_cmp (labels_of ns)) same (labels_rise shown rise)
+rising_told sorted shown false same told rise = absurd (cc)
+
+-- labels in rising order are distinct
+pub distinct_from_rising : (ks : List Label) → IsStrictlySortedBy label_cmp ks → IsDistinct label_eq ks
+distinct_from_rising ks rise = subst (λ (eq : Label → Label → Bool). IsDistinct eq ks) (λ i a b. sym (labels_ties a b) i) (IsDistinct-from_sorted label_cmp ks rise)
+
+-- nodes that have an order by their labels have distinct labels
+pub label_order_distinct : (given ordered : List Node) → IsLabelOrder given ordered → HaveDistinctLabels given
+label_order_distinct given ordered order = distinct_moved ordered given (IsPermutation-sym given ordered order.same) (distinct_from_rising (labels_of ordered) order.rise)
+
+all_after_from : (x : Label) (ns : List Node) → AllByRecursion (λ l. label_cmp x l ≡ Less) (labels_of ns) → AllAfter x (nodes_of ns)
+all_after_from x [] h = tt
+all_after_from x (n ∷ ns) h = (h.0, all_after_from x ns h.1)
+
+-- siblings whose labels rise, each in order, are in order
+pub ordered_from_rising : (ns : List Node) → All IsOrdered ns → IsStrictlySortedBy label_cmp (labels_of ns) → AreOrdered (nodes_of ns)
+unfolding IsStrictlySortedBy
+ordered_from_rising [] each rise = tt
+ordered_from_rising (n ∷ ns) each rise =
+    (each 0 n (omega arith), all_after_from (label_of n) ns rise.0, ordered_from_rising ns (λ k d lt. each (suc k) d (omega arith)) rise.1)
+
+-- a node over siblings that were put into the order of their labels, each in order, is in order
+pub ordered_node : (label : Label) (local : Local) (given ordered : List Node) → IsLabelOrder given ordered → AllByRecursion IsOrdered given → IsOrdered (node label local (nodes_of ordered))
+ordered_node label local given ordered order each = ordered_from_rising ordered (All-permutation IsOrdered given ordered order.same (All-from_recursion IsOrdered given each)) order.rise
+
+-- siblings in order are the order of themselves
+pub already_in_order : (ns : List Node) → AreOrdered (nodes_of ns) → IsLabelOrder ns ns
+already_in_order ns ordered = record { same = IsPermutation-refl ns; rise = labels_sorted ns ordered }
+
+-- ---- an order by labels is the only one
+
+in_cons : (n m : Node) (ns : List Node) → Contains (m ∷ ns) n → (n ≡ m) ⊎ Contains ns n
+in_cons n m ns (zero, within, is) = inl (sym is)
+in_cons n m ns (suc k, within, is) = inr (k, omega arith, is)
+
+in_tail : (n m : Node) (ns : List Node) → Contains ns n → Contains (m ∷ ns) n
+in_tail n m ns (k, within, is) = (suc k, omega arith, is)
+
+in_head : (n : Node) (ns : List Node) → Contains (n ∷ ns) n
+in_head n ns = (0, omega arith, refl)
+
+above_head : (m n : Node) (ns : List Node) → AllByRecursion (λ l. label_cmp (label_of m) l ≡ Less) (labels_of ns) → Contains ns n → label_cmp (label_of m) (label_of n) ≡ Less
+above_head m n ns rise (k, within, is) = subst (λ (o : Node). label_cmp (label_of m) (label_of o) ≡ Less) is (later_label m ns k n rise within)
+
+not_below_itself : (m n : Node) → n ≡ m → label_cmp (label_of m) (label_of n) ≡ Less → ⊥
+not_below_itself m n same below =
+    let here : label_cmp (label_of m) (label_of m) ≡ Less = subst (λ (o : Node). label_cmp (label_of m) (label_of o) ≡ Less) same below in
+    let back = greater (label_of m) (label_of m) here in
+    cc
+
+same_head : (m n : Node) (ms ns : List Node) → AllByRecursion (λ l. label_cmp (label_of m) l ≡ Less) (labels_of ms) → AllByRecursion (λ l. label_cmp (label_of n) l ≡ Less) (labels_of ns)
+    → (m ≡ n) ⊎ Contains ns m → (n ≡ m) ⊎ Contains ms n → m ≡ n
+same_head m n ms ns over_m over_n (inl same) there = same
+same_head m n ms ns over_m over_n (inr inside) (inl same) = sym same
+same_head m n ms ns over_m over_n (inr inside) (inr there) =
+    let a = above_head m n ms over_m there in
+    let b = greater (label_of n) (label_of m) (above_head n m ns over_n inside) in
+    absurd (cc)
+
+-- an element of one tail is in the other
+tail_of : (m n o : Node) (ms ns : List Node) → m ≡ n → AllByRecursion (λ l. label_cmp (label_of m) l ≡ Less) (labels_of ms) → Contains ms o → (o ≡ n) ⊎ Contains ns o → Contains ns o
+tail_of m n o ms ns same over inside (inl at_head) = absurd (not_below_itself m o (at_head ∙ sym same) (above_head m o ms over inside))
+tail_of m n o ms ns same over inside (inr there) = there
+
+same_rising : (ms ns : List Node) → IsStrictlySortedBy label_cmp (labels_of ms) → IsStrictlySortedBy label_cmp (labels_of ns)
+    → ((n : Node) → Contains ms n → Contains ns n) → ((n : Node) → Contains ns n → Contains ms n) → ms ≡ ns
+unfolding IsStrictlySortedBy
+same_rising [] [] rise_m rise_n to from = refl
+same_rising [] (n ∷ ns) rise_m rise_n to from = let none = (from n (in_head n ns)).1 in absurd (omega arith)
+same_rising (m ∷ ms) [] rise_m rise_n to from = let none = (to m (in_head m ms)).1 in absurd (omega arith)
+same_rising (m ∷ ms) (n ∷ ns) rise_m rise_n to from =
+    let head = same_head m n ms ns rise_m.0 rise_n.0 (in_cons m n ns (to m (in_head m ms))) (in_cons n m ms (from n (in_head n ns))) in
+    let rest = same_rising ms ns rise_m.1 rise_n.1
+    (λ o inside. tail_of m n o ms ns head rise_m.0 inside (in_cons o n ns (to o (in_tail o m ms inside))))
+    (λ o inside. tail_of n m o ns ms (sym head) rise_n.0 inside (in_cons o m ms (from o (in_tail o n ns inside)))) in
+    λ i. head i ∷ rest i
+
+-- nodes have at most one order by their labels
+pub label_order_once : (given xs ys : List Node) → IsLabelOrder given xs → IsLabelOrder given ys → xs ≡ ys
+label_order_once given xs ys first second =
+    same_rising xs ys first.rise second.rise
+    (λ n inside. Contains-permutation given ys n second.same (Contains-permutation xs given n (IsPermutation-sym given xs first.same) inside))
+    (λ n inside. Contains-permutation given xs n first.same (Contains-permutation ys given n (IsPermutation-sym given ys second.same) inside))

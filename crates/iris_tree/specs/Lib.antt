@@ -5,5 +5,6 @@ pub mod Items
 pub mod LocalPut
 pub mod LocalText
 pub mod NodeCode
+pub mod Siblings
 pub mod TextLen
 pub mod Universe

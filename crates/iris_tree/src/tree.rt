@@ -1,11 +1,13 @@
 //! Nodes with all nodes below them.
-ghost use Rattle.std.specs.Prelude.{◌≡◌, ◌↔◌, ◌<◌, ◌≤◌, false, Some, None, IsSome, IfOk, IfErr, OnOk, OnErr, IsErrOf, is_some, length, option_copied, slice_index_or};
+ghost use Rattle.std.specs.Prelude.{◌≡◌, ◌↔◌, ◌<◌, ◌≤◌, false, Some, None, IsSome, IsNone, IfSome, IfOk, IfErr, OnOk, OnErr, IsErrOf, is_some, length, option_copied, slice_index_or};
+ghost use Rattle.std.specs.List.{All};
 ghost use Rattle.std.specs.List.Sorted.{IsStrictlySortedBy};
 ghost use Rattle.iris_base.specs.NameOrder.{label_cmp};
 ghost use Rattle.iris_tree.specs.declared.tree.InsertError.TheVariants as errors;
 ghost use Rattle.iris_tree.specs.Universe.{Node, node, no_nodes, labels_of, IsGap, IsOrdered, label_of, local_of, children_of, child_of, part_at, node_at, with_child};
 ghost use Rattle.iris_tree.specs.Document.{with_local};
 ghost use Rattle.iris_tree.specs.LocalPut.{put_below};
+ghost use Rattle.iris_tree.specs.Siblings.{HaveDistinctLabels, IsLabelOrder};
 
 use crate::local::Local;
 use iris_base::{Label, Mem, Name};
@@ -59,7 +61,16 @@ fn search(siblings: &[Tree], label: &Label) -> Result<usize, usize>
     ensures found { IfOk result (λ at. (at < length siblings.now) × ((d : Node) → child_of label.now siblings.now ≡ Some (slice_index_or siblings.now at d))) }
     ensures absent { IfErr result (λ at. (at ≤ length siblings.now) × (child_of label.now siblings.now ≡ None) × IsGap siblings.now label.now at) }
 {
-    siblings.binary_search_by_key(label, |node| *node.label())
+    siblings.binary_search_by(|node| node.label().cmp(label))
+}
+
+// Each of these nodes is in order, as its type says: a step of proofs alone.
+fn tell_order(siblings: &[Tree])
+    ensures { All IsOrdered siblings.now }
+{
+    for node in siblings {
+        node.children();
+    }
 }
 
 impl Tree {
@@ -72,6 +83,26 @@ impl Tree {
             local,
             nodes: Vec::new(alloc),
         }
+    }
+
+    /// The node with these children, put into the order of their labels; none where two of them have the
+    /// same label, and then they are dropped. It takes no memory.
+    pub fn with_children(label: Label, local: Local, mut children: Vec<Tree>) -> Option<Tree>
+        ensures label { IfSome result (λ tree. label_of tree ≡ label) }
+        ensures local { IfSome result (λ tree. local_of tree ≡ local) }
+        ensures children { IfSome result (λ tree. IsLabelOrder children.items (children_of tree)) }
+        ensures twins { IsNone result ↔ ¬ (HaveDistinctLabels children.items) }
+    {
+        children.sort_unstable_by(|a, b| a.label().cmp(b.label()));
+        if !children.is_sorted_by(|a, b| a.label() < b.label()) {
+            return None;
+        }
+        tell_order(&children);
+        Some(Tree {
+            label,
+            local,
+            nodes: children,
+        })
     }
 
     /// What the node is called among its siblings.
