@@ -1,14 +1,15 @@
 -- Attributes as the list of their names and values, in the order of the names.
-use Rattle.std.specs.Prelude.{◌≡◌, ℕ, ◌<◌, ◌≤◌, List, length, map, slice_index_or, Option, Bool, nat_eq, ◌&&◌}
+use Rattle.std.specs.Prelude.{◌≡◌, ℕ, ◌<◌, ◌≤◌, List, length, slice_index_or, Option, Bool, nat_eq, ◌&&◌}
 use Rattle.std.specs.declared.cmp.Ordering.{Ordering}
 use Rattle.std.specs.declared.cmp.Ordering.TheVariants.{Less, Equal, Greater}
-use Rattle.std.specs.List.Sorted.{IsStrictlySortedBy}
 use Rattle.std.specs.Ordering.{nat_cmp}
 use Rattle.std.specs.Cmp.Lexicographic.{slice_cmp, pointwise, nat_list_eq_equiv}
 use Rattle.std.specs.Cmp.{IsEquivalence, on_equiv, and_equiv}
-use Rattle.std.specs.Map.{lookup, remove_entry}
+use Rattle.std.specs.List.Sorted.{IsStrictlySortedBy}
+use Rattle.std.specs.Map.{keys_of, lookup, remove_entry}
 use Rattle.std.specs.BTreeMap.{is_at, insert_entry}
 
+-- a name and a value for each attribute
 abbrev pub Pairs : Type 0
 Pairs = List (List ℕ × List ℕ)
 
@@ -32,7 +33,7 @@ name_cmp = slice_cmp nat_cmp
 
 -- the names rise, so no two attributes have the same one
 abbrev pub AreInNameOrder : Pairs → Type 0
-AreInNameOrder pairs = IsStrictlySortedBy name_cmp (map (λ pair. pair.0) pairs)
+AreInNameOrder pairs = IsStrictlySortedBy name_cmp (keys_of pairs)
 
 -- the names before that place are less
 abbrev pub AreLessUpTo : ℕ → Pairs → List ℕ → Type 0
@@ -52,5 +53,6 @@ WouldStandAt pairs name at = (at ≤ length pairs) × AreLessUpTo at pairs name 
 abbrev pub pair_eq : List ℕ × List ℕ → List ℕ × List ℕ → Bool
 pair_eq p q = pointwise nat_eq p.0 q.0 && pointwise nat_eq p.1 q.1
 
+-- that is an equivalence
 pub pair_equiv : IsEquivalence pair_eq
 pair_equiv = and_equiv (on_equiv (λ p. p.0) nat_list_eq_equiv) (on_equiv (λ p. p.1) nat_list_eq_equiv)

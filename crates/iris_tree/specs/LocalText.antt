@@ -1,5 +1,5 @@
 -- The JSON of local information.
-use Rattle.std.specs.Prelude.{ℕ, List, [], ◌∷◌, codes, map}
+use Rattle.std.specs.Prelude.{◌≡◌, ℕ, List, [], ◌∷◌, ◌++◌, codes, map, Result, MatchResult}
 use Rattle.json.specs.Token.{Token}
 use Rattle.json.specs.Tree.{json_tokens}
 use Rattle.serde_json.specs.Data.{Data, string, array, object, Members, no_members, member}
@@ -46,3 +46,7 @@ value_tokens d = json_tokens (outline d)
 -- what is written for an attribute
 abbrev pub pair_tokens : List ℕ × List ℕ → List Token
 pair_tokens pair = Token.key pair.0 ∷ Token.string pair.1 ∷ []
+
+-- the token is appended, or at an error nothing is
+abbrev pub AppendsWhole : {E : Type 0} → Result (Unit {0}) E → List Token → List Token → Token → Type 0
+AppendsWhole result old new token = MatchResult result (λ _. new ≡ old ++ token ∷ []) (λ _. new ≡ old)

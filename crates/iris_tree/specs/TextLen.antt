@@ -1,12 +1,13 @@
 -- How long JSON text is, counted token by token.
-use Rattle.std.specs.Prelude.{ℕ, ◌+◌, ◌-◌, ◌^◌, List, [], ◌∷◌, length, min}
+use Rattle.std.specs.Prelude.{ℕ, ◌+◌, List, [], ◌∷◌, length}
+use Rattle.std.specs.Io.Iter.{u64_saturate}
 use Rattle.json.specs.Token.{Token}
 use Rattle.json.specs.Print.{token_text, separator, ends}
 use Rattle.iris_tree.specs.declared.counter.Counter.{Counter}
 
--- the number, or the greatest `u64` where it is more
+-- the number, or `u64::MAX` where it is more
 abbrev pub saturated : ℕ → ℕ
-saturated n = min n (2 ^ 64 - 1)
+saturated n = u64_saturate n
 
 -- the counter after one more token
 unfoldable pub counted_token : Counter → Token → Counter

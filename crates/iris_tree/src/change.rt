@@ -4,6 +4,7 @@ ghost use Rattle.iris_tree.specs.Changes.{fits, apply_change, apply_changes, Ref
 
 use crate::local::Local;
 use iris_base::{MAX_ATTRIBUTES, MAX_LOCAL_BYTES, Mem, Memory, Tag, Text, is_id};
+use std::alloc::AllocError;
 use thiserror::Error;
 
 /// One change of a node's local information.
@@ -44,10 +45,18 @@ impl Change {
     pub fn copy(&self) -> Mem<Change>
         ensures { IfOk result (λ copy. copy ≡ self.now) }
     {
+        Ok(self.clone()?)
+    }
+}
+
+impl Clone for Change {
+    ghost is_clone = { λ change copy. copy ≡ change };
+
+    fn clone(&self) -> Result<Change, AllocError> {
         Ok(match self {
             Change::Attr { name, value } => Change::Attr {
                 name: *name,
-                value: value.copy()?,
+                value: value.clone()?,
             },
             Change::Drop { name } => Change::Drop { name: *name },
         })

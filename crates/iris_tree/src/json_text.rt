@@ -1,7 +1,8 @@
 //! JSON text under way.
-ghost use Rattle.std.specs.Prelude.{◌≡◌, [], ◌∷◌, ◌++◌, decimal, OnOk};
+ghost use Rattle.std.specs.Prelude.{◌≡◌, [], decimal};
 ghost use Rattle.json.specs.Token as json;
 ghost use Rattle.json.specs.Print.{print};
+ghost use Rattle.iris_tree.specs.LocalText.{AppendsWhole};
 
 use iris_base::Mem;
 use json::Writer;
@@ -9,7 +10,8 @@ use std::alloc::Global;
 use std::marker::Model;
 
 /// JSON under way (RFC 8259), seen as its tokens. It writes no space, and places the commas and the
-/// colons; brackets and keys are its caller's. After an error what it holds is not to be used.
+/// colons; brackets and keys are its caller's. A call that runs out of memory leaves it as it was. What
+/// writes several tokens may then have written the first of them, and its caller drops the text.
 #[derive(Drop)]
 pub struct JsonText {
     writer: Writer,
@@ -38,7 +40,7 @@ impl JsonText {
 
     /// Writes `{`.
     pub fn begin_object(&mut self) -> Mem<()>
-        ensures { OnOk result (self.new ≡ self.old ++ json.begin_object ∷ []) }
+        ensures { AppendsWhole result self.old self.new json.begin_object }
     {
         self.writer.begin_object()?;
         Ok(())
@@ -46,7 +48,7 @@ impl JsonText {
 
     /// Writes `}`.
     pub fn end_object(&mut self) -> Mem<()>
-        ensures { OnOk result (self.new ≡ self.old ++ json.end_object ∷ []) }
+        ensures { AppendsWhole result self.old self.new json.end_object }
     {
         self.writer.end_object()?;
         Ok(())
@@ -54,7 +56,7 @@ impl JsonText {
 
     /// Writes `[`.
     pub fn begin_array(&mut self) -> Mem<()>
-        ensures { OnOk result (self.new ≡ self.old ++ json.begin_array ∷ []) }
+        ensures { AppendsWhole result self.old self.new json.begin_array }
     {
         self.writer.begin_array()?;
         Ok(())
@@ -62,7 +64,7 @@ impl JsonText {
 
     /// Writes `]`.
     pub fn end_array(&mut self) -> Mem<()>
-        ensures { OnOk result (self.new ≡ self.old ++ json.end_array ∷ []) }
+        ensures { AppendsWhole result self.old self.new json.end_array }
     {
         self.writer.end_array()?;
         Ok(())
@@ -70,7 +72,7 @@ impl JsonText {
 
     /// Writes a member's name, escaped, with its colon.
     pub fn key(&mut self, name: &str) -> Mem<()>
-        ensures { OnOk result (self.new ≡ self.old ++ json.key name.now ∷ []) }
+        ensures { AppendsWhole result self.old self.new (json.key name.now) }
     {
         self.writer.key(name)?;
         Ok(())
@@ -78,7 +80,7 @@ impl JsonText {
 
     /// Writes a string, escaped where RFC 8259, section 7, asks for it, by the shortest escape.
     pub fn string(&mut self, text: &str) -> Mem<()>
-        ensures { OnOk result (self.new ≡ self.old ++ json.string text.now ∷ []) }
+        ensures { AppendsWhole result self.old self.new (json.string text.now) }
     {
         self.writer.string(text)?;
         Ok(())
@@ -86,7 +88,7 @@ impl JsonText {
 
     /// Writes a whole number in decimal.
     pub fn number(&mut self, number: u64) -> Mem<()>
-        ensures { OnOk result (self.new ≡ self.old ++ json.number (decimal number) ∷ []) }
+        ensures { AppendsWhole result self.old self.new (json.number (decimal number)) }
     {
         self.writer.u64(number)?;
         Ok(())
@@ -94,7 +96,7 @@ impl JsonText {
 
     /// Writes `true` or `false`.
     pub fn boolean(&mut self, boolean: bool) -> Mem<()>
-        ensures { OnOk result (self.new ≡ self.old ++ json.boolean boolean ∷ []) }
+        ensures { AppendsWhole result self.old self.new (json.boolean boolean) }
     {
         self.writer.boolean(boolean)?;
         Ok(())
