@@ -1,11 +1,12 @@
 -- Where an attribute stands among others, and what changes there do.
-use Rattle.std.proofs.Common.{◌≡◌, ℕ, zero, suc, ◌<◌, ◌≤◌, List, [], ◌∷◌, length, map, get_or, Option, Some, None, refl, ap, subst, ◌∙◌, arith}
+use Rattle.std.proofs.Common.{◌≡◌, ℕ, zero, suc, ◌<◌, ◌≤◌, List, [], ◌∷◌, length, map, get_or, Option, Some, None, Result, Ok, Err, IfOk, IfErr, refl, ap, subst, ◌∙◌, arith}
 use Rattle.std.specs.Prelude.{insert, remove, slice_set}
 use Rattle.std.specs.declared.cmp.Ordering.TheVariants.{Less, Equal, Greater}
 use Rattle.std.specs.Ordering.{ordering_reverse}
 use Rattle.std.specs.Cmp.Lexicographic.{nat_list_cmp_total}
 use Rattle.std.specs.List.{AllByRecursion}
-use Rattle.std.specs.List.Sorted.{IsStrictlySortedBy}
+use Rattle.std.specs.List.Sorted.{IsStrictlySortedBy, IsSearchInRange, IsBinarySearchResult}
+use Rattle.iris_tree.proofs.Rising.{key_rises, turned_less, turned_greater, turned_equal, comparisons_rise}
 use Rattle.iris_tree.specs.Attrs.{Pairs, value_of, with_attr, without_attr, name_cmp, AreInNameOrder, AreLessUpTo, StandsAt, WouldStandAt}
 
 -- all these names are greater
@@ -19,6 +20,19 @@ stands_below p ps name at h = (omega (arith, h.0), (λ i d lt. h.1 (suc i) d (om
 
 would_stand_below : (p : List ℕ × List ℕ) (ps : Pairs) (name : List ℕ) (at : ℕ) → WouldStandAt (p ∷ ps) name (suc at) → WouldStandAt ps name at
 would_stand_below p ps name at h = (omega (arith, h.0), (λ i d lt. h.1 (suc i) d (omega arith)), (λ d lt. h.2 d (omega arith)))
+
+-- what a search by halves for a name says
+pub name_searched : (ps : Pairs) (name : List ℕ) (r : Result ℕ ℕ) → AreInNameOrder ps → IsSearchInRange r (length ps) → IsBinarySearchResult (λ p. name_cmp p.0 name) ps r
+    → IfOk r (StandsAt ps name) × IfErr r (WouldStandAt ps name)
+name_searched ps name (Ok at) sorted within same =
+    let before : AreLessUpTo at ps name = λ i d lt.
+        let equal : name_cmp name (get_or ps at d).0 ≡ Equal = turned_equal nat_list_cmp_total _ _ (same d) in
+        let less : name_cmp (get_or ps i d).0 (get_or ps at d).0 ≡ Less = key_rises name_cmp (λ p. p.0) ps i at d sorted lt within in
+        nat_list_cmp_total.congr name (get_or ps at d).0 (get_or ps i d).0 equal ∙ turned_less nat_list_cmp_total _ _ less in
+    ((within, before, (λ d. turned_equal nat_list_cmp_total _ _ (same d))), tt)
+name_searched ps name (Err at) sorted within parted =
+    let parts = parted (comparisons_rise nat_list_cmp_total (λ p. p.0) ps name sorted) in
+    (tt, (within, (λ i d lt. turned_less nat_list_cmp_total _ _ (parts.0 i d (omega arith) lt)), (λ d lt. turned_greater nat_list_cmp_total _ _ (parts.1 at d (omega arith) lt))))
 
 -- ---- equal lists and names
 

@@ -1,5 +1,6 @@
+pub mod Rising
 pub mod AttrPlaces
 pub mod Counted
-pub mod LocalsPut
 pub mod Siblings
-pub mod Texts
+pub mod ValueTokens
+pub mod WithLocals

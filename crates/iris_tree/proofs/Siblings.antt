@@ -12,44 +12,28 @@ use Rattle.std.proofs.lemmas.Bool.{cases_lt}
 use Rattle.iris_base.specs.declared.name.Label.{Label}
 use Rattle.iris_base.specs.NameOrder.{label_cmp, label_eq, labels_equiv, labels_total, labels_ties}
 use Rattle.iris_tree.specs.declared.local.Local.{Local}
+use Rattle.iris_tree.proofs.Rising.{later_key, turned_less, turned_greater, comparisons_rise}
 use Rattle.iris_tree.specs.Universe.{Node, node, nodes_of, list_of, label_of, local_of, children_of, labels_of, child_of, insert_node, with_child, IsGap, AllAfter, IsOrdered, AreOrdered}
 use Rattle.iris_tree.specs.NodeCode.{nodes_of-list_of}
 use Rattle.iris_tree.specs.Siblings.{HaveDistinctLabels, IsLabelOrder}
 
+-- a list of nodes, stored as siblings, is that list
 pub list_of-nodes_of : (ns : List Node) → list_of (nodes_of ns) ≡ ns
 list_of-nodes_of [] = refl
 list_of-nodes_of (n ∷ ns) = ap (λ (ms : List Node). n ∷ ms) (list_of-nodes_of ns)
 
 -- ---- the order of labels
 
+-- a lesser label is not equal
 pub not_equal : (a b : Label) → label_cmp a b ≡ Less → label_eq a b ≡ false
 not_equal a b less = labels_ties a b ∙ ap is_eq less
 
+-- an order of labels turned round
 pub greater : (a b : Label) → label_cmp a b ≡ Less → label_cmp b a ≡ Greater
-greater a b less = labels_total.antisymm b a ∙ ap ordering_reverse less
+greater a b before = turned_less labels_total a b before
 
 less : (a b : Label) → label_cmp a b ≡ Greater → label_cmp b a ≡ Less
-less a b greater = labels_total.antisymm b a ∙ ap ordering_reverse greater
-
-at_least_one : (o : Ordering) → o ≡ Greater → 1 ≤ ordering_index o
-at_least_one o h = rw h (omega arith)
-
-two : (o : Ordering) → o ≡ Greater → ordering_index o ≡ 2
-two o h = rw h refl
-
--- a greater label compares no less with a third
-rises_from : (a b x : Label) (o : Ordering) → label_cmp a x ≡ o → label_cmp a b ≡ Less → ordering_index o ≤ ordering_index (label_cmp b x)
-rises_from a b x Less same below = omega arith
-rises_from a b x Equal same below =
-    let before : label_cmp x b ≡ Less = sym (labels_total.congr a x b same) ∙ below in
-    at_least_one _ (greater x b before)
-rises_from a b x Greater same below =
-    let before : label_cmp x b ≡ Less = labels_total.trans x a b (less a x same) below in
-    let top = two _ (greater x b before) in
-    omega (arith, top)
-
-rises : (a b x : Label) → label_cmp a b ≡ Less → ordering_index (label_cmp a x) ≤ ordering_index (label_cmp b x)
-rises a b x below = rises_from a b x (label_cmp a x) refl below
+less a b after = turned_greater labels_total a b after
 
 label_at : (ns : List Node) (i : ℕ) (d : Node) → get_or (labels_of ns) i (label_of d) ≡ label_of (get_or ns i d)
 label_at [] i d = refl
@@ -60,29 +44,17 @@ length-labels_of : (ns : List Node) → length (labels_of ns) ≡ length ns
 length-labels_of [] = refl
 length-labels_of (n ∷ ns) = ap suc (length-labels_of ns)
 
-comparisons_rise : (ns : List Node) (x : Label) → IsStrictlySortedBy label_cmp (labels_of ns) → IsNonDecreasingBy (λ n. ordering_index (label_cmp (label_of n) x)) ns
-comparisons_rise ns x sorted i j d le within = at (cases_lt i j)
-  where
-    at : (i < j) ⊎ (j ≤ i) → ordering_index (label_cmp (label_of (get_or ns i d)) x) ≤ ordering_index (label_cmp (label_of (get_or ns j d)) x)
-    at (inl lt) =
-        let inside : j < length (labels_of ns) = omega (arith, length-labels_of ns) in
-        let below = Less-from_sorted label_cmp (labels_of ns) i j (label_of d) sorted lt inside in
-        rises _ _ x (subst (λ (l : Label). label_cmp (label_of (get_or ns i d)) l ≡ Less) (label_at ns j d)
-        (subst (λ (l : Label). label_cmp l (get_or (labels_of ns) j (label_of d)) ≡ Less) (label_at ns i d) below))
-    at (inr ge) = let same : i ≡ j = omega arith in omega (arith, ap (λ k. ordering_index (label_cmp (label_of (get_or ns k d)) x)) same)
-
 -- ---- where a search ends
 
 equal_label : (a b : Label) → label_cmp a b ≡ Equal → label_eq a b ≡ true
 equal_label a b same = labels_ties a b ∙ ap is_eq same
 
+-- a greater label is not equal
 pub unequal_label : (a b : Label) → label_cmp a b ≡ Greater → label_eq a b ≡ false
 unequal_label a b more = labels_ties a b ∙ ap is_eq more
 
 later_label : (n : Node) (ns : List Node) (i : ℕ) (d : Node) → AllByRecursion (λ l. label_cmp (label_of n) l ≡ Less) (labels_of ns) → i < length ns → label_cmp (label_of n) (label_of (get_or ns i d)) ≡ Less
-later_label n [] i d h within = absurd (omega arith)
-later_label n (m ∷ ns) zero d h within = h.0
-later_label n (m ∷ ns) (suc i) d h within = later_label n ns i d h.1 (omega arith)
+later_label n ns i d h within = later_key label_cmp label_of (label_of n) ns i d h within
 
 -- the first node with a label is the one at which its label was found
 pub found_at : (ns : List Node) (x : Label) (at : ℕ) (d : Node) → IsStrictlySortedBy label_cmp (labels_of ns) → at < length ns → label_cmp (label_of (get_or ns at d)) x ≡ Equal → child_of x ns ≡ Some (get_or ns at d)
@@ -116,11 +88,11 @@ insert_in_gap (n ∷ ns) child (suc at) within gap =
 
 -- ---- one more sibling
 
--- siblings in order have labels in order
 labels_after : (x : Label) (ns : List Node) → AllAfter x (nodes_of ns) → AllByRecursion (λ l. label_cmp x l ≡ Less) (labels_of ns)
 labels_after x [] h = tt
 labels_after x (n ∷ ns) h = (h.0, labels_after x ns h.1)
 
+-- siblings in order have labels that rise strictly
 pub labels_sorted : (ns : List Node) → AreOrdered (nodes_of ns) → IsStrictlySortedBy label_cmp (labels_of ns)
 unfolding IsStrictlySortedBy
 labels_sorted [] h = tt
@@ -156,7 +128,7 @@ pub searched : (ns : List Node) (x : Label) (r : Result ℕ ℕ) → IsStrictlyS
     → (IfOk r (λ at. (at < length ns) × ((d : Node) → child_of x ns ≡ Some (get_or ns at d)))) × (IfErr r (λ at. (at ≤ length ns) × (child_of x ns ≡ None) × IsGap ns x at))
 searched ns x (Ok at) sorted within same = ((within, (λ d. found_at ns x at d sorted within (same d))), tt)
 searched ns x (Err at) sorted within parted =
-    let parts = parted (comparisons_rise ns x sorted) in
+    let parts = parted (comparisons_rise labels_total label_of ns x sorted) in
     let gap : IsGap ns x at = ((λ i d lt. parts.0 i d (omega arith) lt), (λ i d le lt. parts.1 i d le lt)) in
     (tt, (within, none_in_gap ns x at within gap, gap))
 
@@ -165,11 +137,12 @@ pub found_here : (x : Label) (siblings items children : List Node) (at : ℕ) (c
     → Some child ≡ child_of x children
 found_here x siblings items children at child found is same whole = ap Some (is ∙ ap (λ (ns : List Node). get_or ns at child) (sym same)) ∙ sym (found child) ∙ ap (child_of x) (same ∙ whole)
 
--- the parent has a child with a label that was found, and none with a label that was not
+-- the parent has a child with a label that was found
 pub twin_found : (x y : Label) (siblings children : List Node) (at : ℕ) → x ≡ y → ((d : Node) → child_of x siblings ≡ Some (get_or siblings at d)) → siblings ≡ children → (d : Node) → IsSome (child_of y children)
 twin_found x y siblings children at label found same d =
     subst (λ (o : Option Node). IsSome o) (sym (found d) ∙ ap (child_of x) same ∙ ap (λ (l : Label). child_of l children) label) refl
 
+-- and has none with a label that was not found
 pub no_twin : (x y : Label) (siblings children : List Node) → x ≡ y → child_of x siblings ≡ None → siblings ≡ children → IsSome (child_of y children) → ⊥
 no_twin x y siblings children label none same some =
     let bad : IsSome {T = Node} None = subst (λ (o : Option Node). IsSome o) (ap (λ (l : Label). child_of l children) (sym label) ∙ sym (ap (child_of x) same) ∙ none) some in
@@ -183,12 +156,14 @@ inserted x siblings old new child at done items is_done label same within gap =
     let there : IsGap old (label_of child) at = subst (λ (l : Label). IsGap old l at) label (subst (λ (ns : List Node). IsGap ns x at) same gap) in
     (items ∙ ap (λ (b : Bool). if b then insert old at child else old) is_done ∙ insert_in_gap old child at place there, place, there)
 
+-- it keeps the order
 pub inserted_ordered : (x : Label) (siblings old new : List Node) (child : Node) (at : ℕ) (done : Bool) → new ≡ (if done then insert old at child else old) → done ≡ true → x ≡ label_of child → siblings ≡ old → at ≤ length siblings → IsGap siblings x at
     → IsOrdered child → AreOrdered (nodes_of old) → AreOrdered (nodes_of new)
 inserted_ordered x siblings old new child at done items is_done label same within gap below sorted =
     let left = inserted x siblings old new child at done items is_done label same within gap in
     subst (λ (ns : List Node). AreOrdered (nodes_of ns)) (sym left.0) (ordered_in_gap old child at left.1 left.2 below sorted)
 
+-- it gives the node with one child more
 pub inserted_view : (x label : Label) (local : Local) (self : Node) (siblings old new : List Node) (child : Node) (at : ℕ) (done : Bool) → new ≡ (if done then insert old at child else old) → done ≡ true → x ≡ label_of child → siblings ≡ old
     → at ≤ length siblings → IsGap siblings x at → node label local (nodes_of old) ≡ self → node label local (nodes_of new) ≡ with_child self child
 inserted_view x label local self siblings old new child at done items is_done label_is same within gap view =
@@ -245,12 +220,13 @@ twins_stay given (n ∷ ns) moved up stuck distinct =
     let other : label_eq a b ≡ false = ap (λ (l : Label). label_eq l b) (sym (label_at (n ∷ ns) k n)) ∙ ap (label_eq (get_or ks k (label_of n))) (sym (label_at (n ∷ ns) (k + 1) n)) ∙ apart in
     cc
 
--- what a test of the sorted nodes for rising labels says at its two answers
+-- where a test of the sorted nodes for rising labels answers false, two have the same label
 pub twins_told : (given sorted shown : List Node) (answer : Bool) → IsPermutation given sorted → IsSortedBy is_before sorted → shown ≡ sorted → answer ≡ false → IsAllAdjacentAnswer (λ m n b. b ≡ is_before m n) shown answer → HaveDistinctLabels given → ⊥
 twins_told given sorted shown true moved up same told stuck distinct = absurd (cc)
 twins_told given sorted shown false moved up same told stuck distinct =
     twins_stay given sorted moved up (subst (λ (ns : List Node). (k : ℕ) × (k + 1 < length ns) × ((d : Node) → false ≡ is_before (get_or ns k d) (get_or ns (k + 1) d))) same stuck) distinct
 
+-- at the other answer the labels rise
 pub rising_told : (sorted shown : List Node) (answer : Bool) → shown ≡ sorted → answer ≡ true → IsAllAdjacentAnswer (λ m n b. b ≡ is_before m n) shown answer → IsStrictlySortedBy label_cmp (labels_of sorted)
 rising_told sorted shown true same told rise = subst (λ (ns : List Node). IsStrictlySortedBy label_cmp (labels_of ns)) same (labels_rise shown rise)
 rising_told sorted shown false same told rise = absurd (cc)

@@ -20,6 +20,7 @@ use Rattle.iris_tree.specs.Attrs.{value_of, with_attr, without_attr}
 abbrev pub fits : Local → Bool
 fits l = nat_le (length l.attrs) MAX_ATTRIBUTES && nat_le (length (local_text l)) MAX_LOCAL_BYTES
 
+-- that local information, unless it passes a limit
 abbrev pub within_limits : Local → Option Local
 within_limits l = if fits l then Some l else None
 
@@ -34,10 +35,11 @@ abbrev pub apply_from : ℕ → Local → List Change → Result Local ℕ
 apply_from at l [] = Ok l
 apply_from at l (c ∷ cs) = option_map_or (λ changed. apply_from (at + 1) changed cs) (apply_change l c) (Err at)
 
+-- the local information after these changes, or the place of the first that fails
 abbrev pub apply_changes : Local → List Change → Result Local ℕ
 apply_changes l cs = apply_from 0 l cs
 
--- the error is just the place of the first change that fails, or there was no memory
+-- the error is just the place of the first change that fails, or memory ran out
 abbrev pub RefusesChanges : Local → List Change → ChangeError → Type 0
 RefusesChanges l cs (BadChange at) = apply_changes l cs ≡ Err at
 RefusesChanges l cs Memory = Unit {0}

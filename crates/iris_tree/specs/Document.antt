@@ -69,11 +69,13 @@ pub data Part : Type 0 where
   a_node : Node → Part
   a_plain : Plain → Part
 
+-- what stands at a place below a plain element, by the edges from it
 abbrev pub below_plain : Plain → Place → Option Part
 below_plain p [] = Some (a_plain p)
 below_plain p (position i ∷ place) = option_and_then (λ kid. below_plain kid place) (slice_get (out-Plain p).kids i)
 below_plain p (label l ∷ place) = None
 
+-- what stands at a place below a node, by the edges from it
 abbrev pub below_node : Node → Place → Option Part
 below_node n [] = Some (a_node n)
 below_node n (position i ∷ place) = option_and_then (λ p. below_plain p place) (slice_get (local_of n).plain i)
@@ -96,6 +98,7 @@ numbered i (places ∷ more) = places i ++ numbered (i + 1) more
 abbrev pub plain_places_step : Plain-F (ℕ → List Place) → ℕ → List Place
 plain_places_step p i = (position i ∷ []) ∷ map (λ place. position i ∷ place) (numbered 0 p.kids)
 
+-- the places of a plain element at a position, and of all below it
 abbrev pub plain_places : Plain → ℕ → List Place
 plain_places = fold-Plain (ℕ → List Place) plain_places_step
 

@@ -20,10 +20,12 @@ abbrev mutual
   all_rows_of no_nodes = []
   all_rows_of (nodes n ns) = rows_of n ++ all_rows_of ns
 
+-- the nodes that a list of such rows stands for
 abbrev pub nodes_from : List Row → List Node
 nodes_from [] = []
 nodes_from (row ∷ rows) = node row.1.0 row.1.1 (nodes_of (take row.0 (nodes_from rows))) ∷ drop row.0 (nodes_from rows)
 
+-- siblings, listed and stored again, are those siblings
 pub nodes_of-list_of : (ns : Nodes) → nodes_of (list_of ns) ≡ ns
 nodes_of-list_of no_nodes = refl
 nodes_of-list_of (nodes n ns) = ap (nodes n) (nodes_of-list_of ns)
@@ -48,15 +50,18 @@ mutual
 abbrev pub stored : Node → Label × (Local × List Row)
 stored (node label local below) = (label, (local, all_rows_of below ++ []))
 
+-- the node of what is stored
 abbrev pub restored : Label × (Local × List Row) → Node
 restored s = node s.0 s.1.0 (nodes_of (nodes_from s.1.1))
 
 restored_below : (ns : Nodes) → nodes_of (nodes_from (all_rows_of ns ++ [])) ≡ ns
 restored_below ns = ap nodes_of (nodes_from-all_rows_of ns [] ∙ append-nil (list_of ns)) ∙ nodes_of-list_of ns
 
+-- a node, stored and restored, is that node
 pub restored-stored : (n : Node) → restored (stored n) ≡ n
 restored-stored (node label local below) = ap (node label local) (restored_below below)
 
+-- how a node is stored
 abbrev pub node_code : Coded Label → Coded Local → Coded Node
 node_code label local =
     code_by (Label × (Local × List Row)) (coded× label (coded× local (coded_list (coded× coded_ℕ (coded× label local))))) stored restored restored-stored
@@ -81,6 +86,7 @@ child_is_smaller no_nodes i d within = absurd (omega arith)
 child_is_smaller (nodes n ns) zero d within = omega arith
 child_is_smaller (nodes n ns) (suc i) d within = omega (arith, child_is_smaller ns i d (omega arith))
 
+-- a child is smaller than its parent
 pub size_of-child : (n : Node) (i : ℕ) (d : Node) → i < length (children_of n) → size_of (slice_index_or (children_of n) i d) < size_of n
 size_of-child (node label local below) i d within = omega (arith, child_is_smaller below i d within)
 

@@ -15,23 +15,29 @@ mutual
     no_nodes : Nodes
     nodes : Node → Nodes → Nodes
 
+-- a list of nodes as siblings
 abbrev pub nodes_of : List Node → Nodes
 nodes_of [] = no_nodes
 nodes_of (n ∷ ns) = nodes n (nodes_of ns)
 
+-- siblings as a list of nodes
 abbrev pub list_of : Nodes → List Node
 list_of no_nodes = []
 list_of (nodes n ns) = n ∷ list_of ns
 
+-- what a node is called among its siblings
 abbrev pub label_of : Node → Label
 label_of (node label local below) = label
 
+-- what a node holds itself
 abbrev pub local_of : Node → Local
 local_of (node label local below) = local
 
+-- the nodes right below
 abbrev pub children_of : Node → List Node
 children_of (node label local below) = list_of below
 
+-- the labels of these nodes, in their order
 abbrev pub labels_of : List Node → List Label
 labels_of ns = map label_of ns
 

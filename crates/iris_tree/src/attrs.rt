@@ -6,11 +6,10 @@ ghost use Rattle.iris_tree.specs.Attrs.{pair_eq, pair_equiv, value_of, with_attr
 
 use iris_base::{Mem, Tag, Text};
 use std::alloc::Global;
-use std::cmp::Ordering;
 use std::marker::Model;
 
 /// The attributes of an element, seen as the list of their names and values in the order of the bytes of
-/// the names. Elements have few, so they lie in one block and are looked up one after another.
+/// the names. They lie in one block.
 #[derive(Debug, Drop)]
 pub struct Attrs {
     pairs: Vec<(Tag, Text)>,
@@ -27,19 +26,14 @@ impl Model for Attrs {
     ghost invariant = { λ a. AreInNameOrder a.pairs.items };
 }
 
-// The place of the attribute of that name, or the place that one of that name would have.
+// The place of the attribute of that name, or the place that one of that name would have, by a binary
+// search.
 fn place_of(pairs: &[(Tag, Text)], name: &str) -> Result<usize, usize>
+    requires { AreInNameOrder pairs.now }
     ensures there { IfOk result (StandsAt pairs.now name.now) }
     ensures absent { IfErr result (WouldStandAt pairs.now name.now) }
 {
-    for (at, pair) in pairs.iter().enumerate() {
-        match name.cmp(pair.0.as_str()) {
-            Ordering::Less => return Err(at),
-            Ordering::Equal => return Ok(at),
-            Ordering::Greater => {}
-        }
-    }
-    Err(pairs.len())
+    pairs.binary_search_by(|pair| pair.0.as_str().cmp(name))
 }
 
 impl Attrs {
@@ -59,7 +53,7 @@ impl Attrs {
         self.pairs.len()
     }
 
-    /// Whether there is none.
+    /// Returns whether there is none.
     pub fn is_empty(&self) -> bool
         ensures { IsTrue result ↔ (self.now ≡ []) }
     {

@@ -24,7 +24,7 @@ pub enum ChangeError {
     /// canonical text of more than 1,024 bytes.
     #[error("the change at {at} cannot be made")]
     BadChange { at: usize },
-    /// There was no memory.
+    /// Memory ran out.
     #[error("out of memory")]
     Memory,
 }
@@ -64,7 +64,7 @@ impl Clone for Change {
 }
 
 impl Local {
-    // Whether it is within the limits.
+    // Returns whether it is within the limits.
     fn fits(&self) -> bool
         ensures { result ≡ fits self.now }
     {

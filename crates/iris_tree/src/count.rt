@@ -11,7 +11,7 @@ use crate::local::Local;
 use crate::plain::Plain;
 
 impl Attrs {
-    #[tactic(auto, using(crate::proofs::Texts::attrs_written, crate::proofs::Counted::counted_push))]
+    #[tactic(auto, using(crate::proofs::ValueTokens::attrs_written, crate::proofs::Counted::counted_push))]
     fn count(&self, counter: &mut Counter)
         ensures { counter.new ≡ counted counter.old (value_tokens (attrs_data self.now)) }
     {

@@ -92,7 +92,8 @@ fn copies(rt: HostRuntime) -> Result<(), Fail> {
         at: Name::document(alloc),
         is: Element::Plain(note(alloc)?),
     };
-    let Element::Plain(copy) = item.copy()?.is else {
+    let Item { at: _, is } = item.copy()?;
+    let Element::Plain(copy) = is else {
         return Err(Fail::new("a plain element"));
     };
     assert_eq!(rt; copy.text.as_str(), "x");

@@ -21,7 +21,7 @@ pub enum InsertError {
     /// The node has a child with this label.
     #[error("the node has a child with this label")]
     Twin,
-    /// There was no memory.
+    /// Memory ran out.
     #[error("out of memory")]
     Memory,
 }
@@ -171,8 +171,8 @@ impl Tree {
         Some(node)
     }
 
-    /// Puts that local information at the node of that name, in the place of what is there. Whether there
-    /// is such a node. It takes no memory.
+    /// Puts that local information at the node of that name, in the place of what is there. Returns
+    /// whether there is such a node. It takes no memory.
     pub fn set_local(&mut self, name: &Name, local: Local) -> bool
         ensures found { result ≡ is_some (node_at self.old name.now) }
         ensures put { self.new ≡ with_local self.old name.now local }

@@ -13,7 +13,7 @@ use std::alloc::Global;
 
 impl Attrs {
     /// Writes an object with a string for each attribute, in the order of the bytes of the names.
-    #[tactic(auto, using(crate::proofs::Texts::attrs_written, std::proofs::lemmas::List::append_assoc))]
+    #[tactic(auto, using(crate::proofs::ValueTokens::attrs_written, std::proofs::lemmas::List::append_assoc))]
     pub fn write(&self, out: &mut JsonText) -> Mem<()>
         ensures { OnOk result (out.new ≡ out.old ++ value_tokens (attrs_data self.now)) }
     {
@@ -77,7 +77,7 @@ impl Local {
     }
 
     /// The JSON text, without spaces, by the same allocator. Equal local information has the same text.
-    #[tactic(auto, using(crate::proofs::Texts::printed))]
+    #[tactic(auto, using(crate::proofs::ValueTokens::printed))]
     pub fn text(&self) -> Mem<Vec<u8>>
         ensures { IfOk result (λ text. text.items ≡ local_text self.now) }
     {
@@ -122,7 +122,7 @@ fn write_changes(changes: &[Change], out: &mut JsonText) -> Mem<()>
 
 /// The JSON text of changes, without spaces: an array that has `["attr",name,value]` for an attribute
 /// that gets a value and `["drop",name]` for one that is taken away, in the order of the changes.
-#[tactic(auto, using(crate::proofs::Texts::printed))]
+#[tactic(auto, using(crate::proofs::ValueTokens::printed))]
 pub fn changes_text(alloc: Global, changes: &[Change]) -> Mem<Vec<u8>>
     ensures { IfOk result (λ text. text.items ≡ changes_text changes.now) }
 {

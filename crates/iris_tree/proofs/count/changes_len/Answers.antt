@@ -4,7 +4,7 @@ use Rattle.iris_tree.specs.LocalText.{value_tokens}
 use Rattle.iris_tree.specs.Changes.{changes_data}
 use Rattle.iris_tree.specs.TextLen.{saturated}
 use Rattle.iris_tree.proofs.Counted.{counted_text}
-use Rattle.iris_tree.proofs.Texts.{printed}
+use Rattle.iris_tree.proofs.ValueTokens.{printed}
 use Rattle.iris_tree.proofs.count.changes_len.Goals as goal
 
 pub returns : goal.returns

@@ -2,7 +2,7 @@ use Rattle.std.proofs.Common.{◌≡◌, rules, take, take_all, refl}
 use Rattle.iris_tree.specs.LocalText.{value_tokens}
 use Rattle.iris_tree.specs.Changes.{change_data}
 use Rattle.iris_tree.specs.TextLen.{counted}
-use Rattle.iris_tree.proofs.Texts.{changes_more, changes_written}
+use Rattle.iris_tree.proofs.ValueTokens.{changes_more, changes_written}
 use Rattle.iris_tree.proofs.Counted.{counted-append}
 use Rattle.iris_tree.proofs.count.count_changes.Goals as goal
 

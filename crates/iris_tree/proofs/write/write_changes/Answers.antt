@@ -1,7 +1,7 @@
 use Rattle.std.proofs.Common.{◌≡◌, ◌++◌, rules, append_assoc, take, take_all}
 use Rattle.iris_tree.specs.LocalText.{value_tokens}
 use Rattle.iris_tree.specs.Changes.{change_data}
-use Rattle.iris_tree.proofs.Texts.{changes_more, changes_written}
+use Rattle.iris_tree.proofs.ValueTokens.{changes_more, changes_written}
 use Rattle.iris_tree.proofs.write.write_changes.Goals as goal
 
 pub loop-change-preserved : goal.loop-change-preserved

@@ -1,5 +1,5 @@
 use Rattle.std.proofs.Common.{◌≡◌, ◌++◌, take}
-use Rattle.iris_tree.proofs.Texts.{changes_tokens}
+use Rattle.iris_tree.proofs.ValueTokens.{changes_tokens}
 use Rattle.iris_tree.proofs.write.write_changes.Given as goal
 
 abbrev pub invariant-loop-change : goal.invariant-loop-change

@@ -1,7 +1,7 @@
 use Rattle.std.proofs.Common.{◌≡◌, ◌∙◌, rules, take, take_all, refl}
 use Rattle.iris_tree.specs.LocalText.{plain_data, value_tokens}
 use Rattle.iris_tree.specs.TextLen.{counted}
-use Rattle.iris_tree.proofs.Texts.{plains_more, local_written}
+use Rattle.iris_tree.proofs.ValueTokens.{plains_more, local_written}
 use Rattle.iris_tree.proofs.Counted.{counted-append}
 use Rattle.iris_tree.proofs.local.Local.count.Goals as goal
 

@@ -3,7 +3,7 @@ use Rattle.iris_tree.specs.declared.counter.Counter.{Counter}
 use Rattle.iris_tree.specs.LocalText.{local_data, value_tokens}
 use Rattle.iris_tree.specs.TextLen.{saturated}
 use Rattle.iris_tree.proofs.Counted.{counted_text}
-use Rattle.iris_tree.proofs.Texts.{printed}
+use Rattle.iris_tree.proofs.ValueTokens.{printed}
 use Rattle.iris_tree.proofs.local.Local.text_len.Goals as goal
 
 pub returns : goal.returns

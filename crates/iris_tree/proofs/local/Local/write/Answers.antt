@@ -1,6 +1,6 @@
 use Rattle.std.proofs.Common.{◌≡◌, ◌++◌, ◌∙◌, rules, append_assoc, take, take_all}
 use Rattle.iris_tree.specs.LocalText.{plain_data, value_tokens}
-use Rattle.iris_tree.proofs.Texts.{plains_more, local_written}
+use Rattle.iris_tree.proofs.ValueTokens.{plains_more, local_written}
 use Rattle.iris_tree.proofs.local.Local.write.Goals as goal
 
 pub loop-element-preserved : goal.loop-element-preserved

@@ -2,7 +2,7 @@ use Rattle.std.proofs.Common.{◌≡◌, ◌∙◌, rules, take, take_all, refl}
 use Rattle.iris_tree.specs.declared.plain.Plain.TheViews.{out-Plain}
 use Rattle.iris_tree.specs.LocalText.{plain_data, value_tokens}
 use Rattle.iris_tree.specs.TextLen.{counted}
-use Rattle.iris_tree.proofs.Texts.{plains_more, plain_written}
+use Rattle.iris_tree.proofs.ValueTokens.{plains_more, plain_written}
 use Rattle.iris_tree.proofs.Counted.{counted-append}
 use Rattle.iris_tree.proofs.plain.Plain.+count.Goals as goal
 

@@ -1,6 +1,6 @@
 use Rattle.std.proofs.Common.{◌≡◌, take}
 use Rattle.iris_tree.specs.TextLen.{counted}
-use Rattle.iris_tree.proofs.Texts.{plains_tokens}
+use Rattle.iris_tree.proofs.ValueTokens.{plains_tokens}
 use Rattle.iris_tree.proofs.plain.Plain.+count.Given as goal
 
 abbrev pub invariant-loop-kid : goal.invariant-loop-kid

@@ -1,7 +1,7 @@
 use Rattle.std.proofs.Common.{◌≡◌, ◌++◌, ◌∙◌, rules, append_assoc, take, take_all}
 use Rattle.iris_tree.specs.declared.plain.Plain.TheViews.{out-Plain}
 use Rattle.iris_tree.specs.LocalText.{plain_data, value_tokens}
-use Rattle.iris_tree.proofs.Texts.{plains_more, plain_written}
+use Rattle.iris_tree.proofs.ValueTokens.{plains_more, plain_written}
 use Rattle.iris_tree.proofs.plain.Plain.+write.Goals as goal
 
 pub loop-kid-preserved : goal.loop-kid-preserved

@@ -1,5 +1,5 @@
 use Rattle.std.proofs.Common.{◌≡◌, ◌++◌, take}
-use Rattle.iris_tree.proofs.Texts.{plains_tokens}
+use Rattle.iris_tree.proofs.ValueTokens.{plains_tokens}
 use Rattle.iris_tree.proofs.plain.Plain.+write.Given as goal
 
 abbrev pub invariant-loop-kid : goal.invariant-loop-kid

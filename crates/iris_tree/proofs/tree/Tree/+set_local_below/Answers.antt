@@ -2,7 +2,7 @@ use Rattle.std.proofs.Common.{◌≡◌, sym, subst, rules, ◌∷◌}
 use Rattle.std.proofs.lemmas.List.{nil_from_length}
 use Rattle.iris_tree.specs.Universe.{Nodes, AreOrdered}
 use Rattle.iris_tree.proofs.Siblings.{labels_sorted}
-use Rattle.iris_tree.proofs.LocalsPut.{put_view_here, no_part, no_put, put_child, part_found, put_view_below, all_ordered_kept}
+use Rattle.iris_tree.proofs.WithLocals.{put_view_here, no_part, no_put, put_child, part_found, put_view_below, all_ordered_kept}
 use Rattle.iris_tree.proofs.tree.Tree.+set_local_below.Goals as goal
 
 pub returns-in_default-clause-put : goal.returns-in_default-clause-put

@@ -4,7 +4,7 @@ use Rattle.iris_base.specs.declared.name.Label.{Label}
 use Rattle.iris_base.specs.NameOrder.{label_eq}
 use Rattle.iris_tree.specs.Universe.{Node, label_of}
 use Rattle.iris_tree.specs.Document.{with_local, local_put}
-use Rattle.iris_tree.proofs.LocalsPut.{locals_kept, not_put}
+use Rattle.iris_tree.proofs.WithLocals.{locals_kept, not_put}
 use Rattle.iris_tree.proofs.tree.Tree.set_local.Goals as goal
 
 pub returns-in_default-clause-put : goal.returns-in_default-clause-put

@@ -28,6 +28,7 @@ members_written : (pairs : Pairs) → members_tokens (members_outline (attrs_mem
 members_written [] = refl
 members_written (pair ∷ pairs) = ap (λ (ts : List Token). Token.key pair.0 ∷ Token.string pair.1 ∷ ts) (members_written pairs)
 
+-- attributes are written member by member
 pub attrs_written : (pairs : Pairs) → value_tokens (attrs_data pairs) ≡ Token.begin_object ∷ (flat_map pair_tokens pairs ++ Token.end_object ∷ [])
 unfolding value_tokens
 attrs_written pairs = ap (λ (ts : List Token). Token.begin_object ∷ ts) (members_written pairs)
@@ -81,6 +82,7 @@ step_written tag text attrs kids =
     let rest = Token.key (codes "tag") ∷ Token.string tag ∷ Token.key (codes "text") ∷ Token.string text ∷ Token.end_object ∷ [] in
     ap (λ (ts : List Token). Token.begin_object ∷ Token.key (codes "attrs") ∷ (value_tokens (attrs_data attrs) ++ (Token.key (codes "kids") ∷ Token.begin_array ∷ ts))) (array_written kids rest)
 
+-- a plain element is written with its kids one after another
 pub plain_written : (p : Plain) → value_tokens (plain_data p)
     ≡ Token.begin_object ∷ Token.key (codes "attrs") ∷ (value_tokens (attrs_data (out-Plain p).attrs) ++ (Token.key (codes "kids") ∷ Token.begin_array ∷ (plains_tokens (out-Plain p).kids
     ++ (Token.end_array ∷ Token.key (codes "tag") ∷ Token.string (out-Plain p).tag ∷ Token.key (codes "text") ∷ Token.string (out-Plain p).text ∷ Token.end_object ∷ []))))
@@ -92,15 +94,18 @@ plain_written p = ap value_tokens (fold_out-Plain Data plain_step p) ∙ step_wr
 abbrev pub changes_tokens : List Change → List Token
 changes_tokens cs = values_tokens change_data cs
 
+-- one more change
 pub changes_more : (cs : List Change) (i : ℕ) (c : Change) → i < length cs → c ≡ get_or cs i c → changes_tokens (take (i + 1) cs) ≡ changes_tokens (take i cs) ++ value_tokens (change_data c)
 changes_more = values_more change_data
 
+-- changes are written one after another
 pub changes_written : (cs : List Change) → value_tokens (changes_data cs) ≡ Token.begin_array ∷ (changes_tokens cs ++ Token.end_array ∷ [])
 unfolding value_tokens
 changes_written cs = ap (λ (ts : List Token). Token.begin_array ∷ ts) (items_written (map change_data cs))
 
 -- ---- local information
 
+-- local information is written with its plain elements one after another
 pub local_written : (l : Local) → value_tokens (local_data l)
     ≡ Token.begin_object ∷ Token.key (codes "attrs") ∷ (value_tokens (attrs_data l.attrs) ++ (Token.key (codes "plain") ∷ Token.begin_array ∷ (plains_tokens l.plain
     ++ (Token.end_array ∷ Token.end_object ∷ []))))
