@@ -26,13 +26,19 @@ pub name_searched : (ps : Pairs) (name : List ℕ) (r : Result ℕ ℕ) → AreI
     → IfOk r (StandsAt ps name) × IfErr r (WouldStandAt ps name)
 name_searched ps name (Ok at) sorted within same =
     let before : AreLessUpTo at ps name = λ i d lt.
-        let equal : name_cmp name (get_or ps at d).0 ≡ Equal = turned_equal nat_list_cmp_total _ _ (same d) in
-        let less : name_cmp (get_or ps i d).0 (get_or ps at d).0 ≡ Less = key_rises name_cmp (λ p. p.0) ps i at d sorted lt within in
-        nat_list_cmp_total.congr name (get_or ps at d).0 (get_or ps i d).0 equal ∙ turned_less nat_list_cmp_total _ _ less in
-    ((within, before, (λ d. turned_equal nat_list_cmp_total _ _ (same d))), tt)
+    let less : name_cmp (get_or ps i d).0 (get_or ps at d).0 ≡ Less = key_rises name_cmp (λ p. p.0) ps i at d sorted lt within in
+    nat_list_cmp_total.congr name (get_or ps at d).0 (get_or ps i d).0 (turned_equal nat_list_cmp_total (get_or ps at d).0 name (same d))
+    ∙ turned_less nat_list_cmp_total (get_or ps i d).0 (get_or ps at d).0 less in
+    ((within, before, (λ d. turned_equal nat_list_cmp_total (get_or ps at d).0 name (same d))), tt)
 name_searched ps name (Err at) sorted within parted =
-    let parts = parted (comparisons_rise nat_list_cmp_total (λ p. p.0) ps name sorted) in
-    (tt, (within, (λ i d lt. turned_less nat_list_cmp_total _ _ (parts.0 i d (omega arith) lt)), (λ d lt. turned_greater nat_list_cmp_total _ _ (parts.1 at d (omega arith) lt))))
+    let parts = parted (comparisons_rise nat_list_cmp_total (λ p. p.0) ps name sorted) in (
+      tt,
+      (
+        within,
+        (λ i d lt. turned_less nat_list_cmp_total (get_or ps i d).0 name (parts.0 i d (omega arith) lt)),
+        (λ d lt. turned_greater nat_list_cmp_total (get_or ps at d).0 name (parts.1 at d (omega arith) lt)),
+      ),
+    )
 
 -- ---- equal lists and names
 
