@@ -20,8 +20,8 @@ pub enum Change {
 #[derive(Clone, Copy, Debug, PartialEq, Eq, PartialOrd, Ord, Hash, Error)]
 pub enum ChangeError {
     /// The change at that place of the list, counted from 0, is the first that fails: it names an
-    /// attribute `id`, drops an attribute that is not there, or leaves more than 64 attributes or a
-    /// canonical text of more than 1,024 bytes.
+    /// attribute `id`, drops an attribute that is not there, or leaves more than `MAX_ATTRIBUTES`
+    /// attributes or a canonical text of more than `MAX_LOCAL_BYTES` bytes.
     #[error("the change at {at} cannot be made")]
     BadChange { at: usize },
     /// Memory ran out.

@@ -17,8 +17,8 @@ fn escaped_len(byte: u8) -> u64
     ensures { result ≡ length (escape_byte byte) }
 {
     match byte {
-        b'"' | b'\\' | 8 | 9 | 10 | 12 | 13 => 2,
-        0..32 => 6,
+        b'"' | b'\\' | b'\x08' | b'\t' | b'\n' | b'\x0c' | b'\r' => 2,
+        b'\0'..b' ' => 6,
         _ => 1,
     }
 }
