@@ -61,8 +61,10 @@ fn children(rt: HostRuntime) -> Result<(), Fail> {
     let Some(city) = Tree::with_children(top, Local::new(alloc), children) else {
         return Err(Fail::new("a city"));
     };
-    let first = city.children().first().map(|node| *node.label());
-    assert_eq!(rt; first, Some(north));
+    let [first, _] = city.children() else {
+        return Err(Fail::new("two children"));
+    };
+    assert_eq!(rt; first.label().id.as_str(), "north");
     Ok(())
 }
 
