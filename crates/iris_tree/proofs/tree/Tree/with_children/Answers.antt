@@ -1,10 +1,10 @@
 use Rattle.std.proofs.Common.{◌≡◌, sym, subst, refl, rules, true, false, List}
 use Rattle.std.specs.List.{All}
-use Rattle.std.specs.List.Sorted.{IsSortedBy, IsStrictlySortedBy}
+use Rattle.std.specs.List.Sorted.{IsSortedBy}
 use Rattle.std.proofs.lemmas.Fn.{always_returns_same}
 use Rattle.std.proofs.lemmas.List.MinMax.{ranks_by}
-use Rattle.iris_base.specs.NameOrder.{label_cmp, labels_total}
-use Rattle.iris_tree.specs.Universe.{Node, label_of, labels_of, IsOrdered}
+use Rattle.iris_base.specs.NameOrder.{labels_total}
+use Rattle.iris_tree.specs.Universe.{Node, label_of, IsOrdered}
 use Rattle.iris_tree.specs.Siblings.{IsLabelOrder}
 use Rattle.iris_tree.proofs.Siblings.{list_of-nodes_of, is_before, twins_told, rising_told, ordered_from_rising, label_order_distinct}
 use Rattle.iris_tree.proofs.tree.Tree.with_children.Goals as goal
