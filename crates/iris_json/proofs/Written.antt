@@ -1,24 +1,23 @@
--- What is written for nodes, items and the lines of a run.
-use Rattle.std.proofs.Common.{◌≡◌, ℕ, ◌+◌, ◌<◌, List, [], ◌∷◌, ◌++◌, ◌∙◌, Bool, ap, sym, refl, get_or, length, take, map, flat_map, codes, decimal, append_assoc}
-use Rattle.std.proofs.lemmas.List.{take_more, append-nil}
+-- What is written for nodes, items and rows of fields.
+use Rattle.std.proofs.Common.{◌≡◌, ℕ, ◌+◌, ◌<◌, List, [], ◌∷◌, ◌++◌, ◌∙◌, ap, sym, refl, get_or, length, take, map, flat_map, codes, append_assoc, Bor}
+use Rattle.std.proofs.lemmas.List.{take_more, append-nil, map-append}
 use Rattle.std.proofs.lemmas.Grind.{flat_map-append}
 use Rattle.json.specs.Token.{Token}
-use Rattle.json.specs.Tree.{items_tokens}
+use Rattle.json.specs.Tree.{items_tokens, members_tokens}
 use Rattle.serde_json.specs.Data.{Data, string, array}
 use Rattle.serde_json.specs.View.{items_of}
-use Rattle.serde_json.specs.Written.{items_outline}
+use Rattle.serde_json.specs.Written.{items_outline, members_outline}
 use Rattle.iris_base.specs.declared.name.Label.{Label}
 use Rattle.iris_base.specs.NameText.{name_text}
 use Rattle.iris_tree.specs.LocalText.{attrs_data, plain_data, value_tokens}
 use Rattle.iris_tree.specs.Universe.{Node, node, Nodes, no_nodes, nodes, label_of, local_of, list_of, children_of}
 use Rattle.iris_tree.specs.declared.item.Item.{Item}
-use Rattle.iris_base.specs.declared.cite.Cite.{Cite}
-use Rattle.iris_json.specs.declared.out.Out.{Out}
 use Rattle.iris_json.specs.declared.city.City.{City}
 use Rattle.iris_json.specs.CityLine.{texts}
 use Rattle.iris_json.specs.CityText.{bare, bare_items, places_data, city_data}
 use Rattle.iris_json.specs.Render.{node_data, nodes_data, element_data, item_data, items_data}
-use Rattle.iris_json.specs.Out.{cites_data, out_data}
+use Rattle.iris_json.specs.declared.row.Field.{Field}
+use Rattle.iris_json.specs.Rows.{members_of, row_data, field_data, fields_of}
 
 -- what is written for one value after another
 abbrev pub all_tokens : {A : Type 0} → (A → Data) → List A → List Token
@@ -94,15 +93,30 @@ pub item_written : (i : Item) → value_tokens (item_data i)
 unfolding value_tokens
 item_written i = refl
 
--- an answer
-pub answer_written : (answer : List Item) (cites : List Cite) (newest : Bool) (request : ℕ) → value_tokens (out_data (Out.Answer answer cites newest request))
-    ≡ Token.begin_object ∷ Token.key (codes "answer") ∷ (value_tokens (items_data answer) ++ (Token.key (codes "cites") ∷ (value_tokens (cites_data cites)
-    ++ (Token.key (codes "newest") ∷ Token.boolean newest ∷ Token.key (codes "request") ∷ Token.number (decimal request) ∷ Token.end_object ∷ []))))
-unfolding value_tokens
-answer_written answer cites newest request = refl
+-- what is written for one member after another
+abbrev pub member_tokens : List (List ℕ × Data) → List Token
+member_tokens [] = []
+member_tokens (f ∷ fs) = Token.key f.0 ∷ (value_tokens f.1 ++ member_tokens fs)
 
--- an audit
-pub audit_written : (audit : List Item) (request : ℕ) → value_tokens (out_data (Out.Audit audit request))
-    ≡ Token.begin_object ∷ Token.key (codes "audit") ∷ (value_tokens (items_data audit) ++ (Token.key (codes "request") ∷ Token.number (decimal request) ∷ Token.end_object ∷ []))
+member_tokens-append : (fs gs : List (List ℕ × Data)) → member_tokens (fs ++ gs) ≡ member_tokens fs ++ member_tokens gs
+member_tokens-append [] gs = refl
+member_tokens-append (f ∷ fs) gs = ap (λ (ts : List Token). Token.key f.0 ∷ (value_tokens f.1 ++ ts)) (member_tokens-append fs gs) ∙ ap (λ (ts : List Token). Token.key f.0 ∷ ts) (sym (append_assoc (value_tokens f.1) (member_tokens fs) (member_tokens gs)))
+
+-- one field more
+pub fields_more : (row : List (Bor (List ℕ) × Field)) (i : ℕ) (f : Bor (List ℕ) × Field) → i < length row → f ≡ get_or row i f
+    → member_tokens (fields_of (take (i + 1) row)) ≡ member_tokens (fields_of (take i row)) ++ Token.key f.0.now ∷ value_tokens (field_data f.1)
+fields_more row i f within is =
+    ap (λ (fs : List (Bor (List ℕ) × Field)). member_tokens (fields_of fs)) (take_more row i f within ∙ ap (λ y. take i row ++ y ∷ []) (sym is))
+    ∙ ap member_tokens (map-append (λ (g : Bor (List ℕ) × Field). (g.0.now, field_data g.1)) (take i row) (f ∷ []))
+    ∙ member_tokens-append (fields_of (take i row)) (fields_of (f ∷ []))
+    ∙ ap (λ (ts : List Token). member_tokens (fields_of (take i row)) ++ Token.key f.0.now ∷ ts) (append-nil (value_tokens (field_data f.1)))
+
+members_written : (row : List (List ℕ × Data)) (ts : List Token) → members_tokens (members_outline (members_of row)) ++ ts ≡ member_tokens row ++ Token.end_object ∷ ts
 unfolding value_tokens
-audit_written audit request = refl
+members_written [] ts = refl
+members_written (f ∷ fs) ts = rw (append_assoc (value_tokens f.1) (members_tokens (members_outline (members_of fs))) ts, members_written fs ts, append_assoc (value_tokens f.1) (member_tokens fs) (Token.end_object ∷ ts)) refl
+
+-- a row
+pub row_written : (row : List (List ℕ × Data)) → value_tokens (row_data row) ≡ Token.begin_object ∷ (member_tokens row ++ Token.end_object ∷ [])
+unfolding value_tokens
+row_written row = ap (λ (ts : List Token). Token.begin_object ∷ ts) (sym (append-nil (members_tokens (members_outline (members_of row)))) ∙ members_written row [])

@@ -1,29 +1,16 @@
 -- The lines of a run as JSON.
-use Rattle.std.specs.Prelude.{ℕ, List, [], ◌∷◌, map, codes}
-use Rattle.serde_json.specs.Data.{Data, unsigned, boolean, number, string, array, object, no_members, member}
-use Rattle.serde_json.specs.View.{items_of}
+use Rattle.std.specs.Prelude.{ℕ, List, [], ◌∷◌, codes}
+use Rattle.serde_json.specs.Data.{Data, boolean, string}
 use Rattle.serde_json.specs.Written.{compact_text}
-use Rattle.iris_base.specs.NameText.{name_text}
-use Rattle.iris_base.specs.declared.cite.Cite.{Cite}
 use Rattle.iris_json.specs.declared.out.Why.{Why}
 use Rattle.iris_json.specs.declared.out.Why.TheVariants.{Empty, Truncated, NotJson, Shape, Name, Number, Change}
 use Rattle.iris_json.specs.declared.out.Which.{Which}
 use Rattle.iris_json.specs.declared.out.Which.TheVariants.{Line, Script, Lines, Nodes, Depth, Children, Attributes, Local}
 use Rattle.iris_json.specs.declared.out.Out.{Out}
 use Rattle.iris_json.specs.declared.out.Out.TheVariants.{Query, Update, Answer, Audit, Accepted, Settled, BackInTime, NoSuchNode, Old, BadChange, Ended, Limit}
+use Rattle.iris_json.specs.declared.out.TheConstants.{BAD_SCRIPT, PAST_LIMIT}
 use Rattle.iris_json.specs.Render.{items_data}
-
--- a whole number
-abbrev pub count : ℕ → Data
-count n = number (unsigned n)
-
--- a cite is the list of a name, a version and a moment
-abbrev pub cite_data : Cite → Data
-cite_data c = array (items_of (string (name_text c.name) ∷ count c.version ∷ count c.stamp ∷ []))
-
--- cites, in their order
-abbrev pub cites_data : List Cite → Data
-cites_data cites = array (items_of (map cite_data cites))
+use Rattle.iris_json.specs.Rows.{count, cites_data, row_data}
 
 -- the word for what is wrong with a script
 abbrev pub why_word : Why → List ℕ
@@ -47,61 +34,34 @@ which_word Attributes = codes "attributes"
 which_word Local = codes "local"
 
 -- a post: what is posted, its number, the request's, and the agent that it goes to
-abbrev pub post_data : List ℕ → ℕ → ℕ → List ℕ → Data
-post_data kind post request to = object
-    (member (codes "kind") (string kind)
-    (member (codes "post") (count post)
-    (member (codes "request") (count request)
-    (member (codes "to") (string to)
-    no_members))))
+abbrev pub post_row : List ℕ → ℕ → ℕ → List ℕ → List (List ℕ × Data)
+post_row kind post request to =
+    (codes "kind", string kind) ∷ (codes "post", count post) ∷ (codes "request", count request) ∷ (codes "to", string to) ∷ []
 
 -- a request that was refused, with the one number that tells more
-abbrev pub refused_data : List ℕ → ℕ → List ℕ → ℕ → Data
-refused_data key told why request = object
-    (member key (count told)
-    (member (codes "refused") (string why)
-    (member (codes "request") (count request)
-    no_members)))
+abbrev pub refused_row : List ℕ → ℕ → List ℕ → ℕ → List (List ℕ × Data)
+refused_row key told why request =
+    (key, count told) ∷ (codes "refused", string why) ∷ (codes "request", count request) ∷ []
 
--- a line: its keys in the order of their bytes
+-- a line: its keys, in the order of their bytes, and what it has at each
+abbrev pub out_row : Out → List (List ℕ × Data)
+out_row (Query post request to) = post_row (codes "query") post request to
+out_row (Update post request to) = post_row (codes "update") post request to
+out_row (Answer answer cites newest request) =
+    (codes "answer", items_data answer) ∷ (codes "cites", cites_data cites) ∷ (codes "newest", boolean newest) ∷ (codes "request", count request) ∷ []
+out_row (Audit audit request) = (codes "audit", items_data audit) ∷ (codes "request", count request) ∷ []
+out_row (Accepted accepted request) = (codes "accepted", count accepted) ∷ (codes "request", count request) ∷ []
+out_row (BackInTime now) = (codes "now", count now) ∷ (codes "refused", string (codes "back in time")) ∷ []
+out_row (NoSuchNode request) = (codes "refused", string (codes "no such node")) ∷ (codes "request", count request) ∷ []
+out_row (Old last request) = refused_row (codes "last") last (codes "old") request
+out_row (BadChange at request) = refused_row (codes "at") at (codes "bad change") request
+out_row (Settled settled) = (codes "settled", count settled) ∷ []
+out_row (Ended line why) = (codes "ended", count BAD_SCRIPT) ∷ (codes "line", count line) ∷ (codes "why", string (why_word why)) ∷ []
+out_row (Limit limit which) = (codes "count", count limit) ∷ (codes "ended", count PAST_LIMIT) ∷ (codes "which", string (which_word which)) ∷ []
+
+-- a line as a value
 abbrev pub out_data : Out → Data
-out_data (Query post request to) = post_data (codes "query") post request to
-out_data (Update post request to) = post_data (codes "update") post request to
-out_data (Answer answer cites newest request) = object
-    (member (codes "answer") (items_data answer)
-    (member (codes "cites") (cites_data cites)
-    (member (codes "newest") (boolean newest)
-    (member (codes "request") (count request)
-    no_members))))
-out_data (Audit audit request) = object
-    (member (codes "audit") (items_data audit)
-    (member (codes "request") (count request)
-    no_members))
-out_data (Accepted accepted request) = object
-    (member (codes "accepted") (count accepted)
-    (member (codes "request") (count request)
-    no_members))
-out_data (BackInTime now) = object
-    (member (codes "now") (count now)
-    (member (codes "refused") (string (codes "back in time"))
-    no_members))
-out_data (NoSuchNode request) = object
-    (member (codes "refused") (string (codes "no such node"))
-    (member (codes "request") (count request)
-    no_members))
-out_data (Old last request) = refused_data (codes "last") last (codes "old") request
-out_data (BadChange at request) = refused_data (codes "at") at (codes "bad change") request
-out_data (Settled settled) = object (member (codes "settled") (count settled) no_members)
-out_data (Ended line why) = object
-    (member (codes "ended") (count 3)
-    (member (codes "line") (count line)
-    (member (codes "why") (string (why_word why))
-    no_members)))
-out_data (Limit limit which) = object
-    (member (codes "count") (count limit)
-    (member (codes "ended") (count 7)
-    (member (codes "which") (string (which_word which))
-    no_members)))
+out_data out = row_data (out_row out)
 
 -- the text of a line, without its LF
 abbrev pub out_text : Out → List ℕ

@@ -11,6 +11,7 @@ mod keys;
 mod line;
 mod node;
 mod out;
+mod row;
 #[cfg(test)]
 mod tests;
 #[cfg(test)]

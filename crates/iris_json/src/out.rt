@@ -1,11 +1,12 @@
 //! The lines of a run.
-ghost use Rattle.std.specs.Prelude.{◌≡◌, ◌++◌, OnOk, IfOk};
-ghost use Rattle.iris_tree.specs.LocalText.{value_tokens};
+ghost use Rattle.std.specs.Prelude.{◌≡◌, IfOk};
+ghost use Rattle.serde_json.specs.Written.{compact_text};
 ghost use Rattle.iris_json.specs.declared.out.Out.{Out};
-ghost use Rattle.iris_json.specs.Out.{why_word, which_word, cite_data, cites_data, post_data, refused_data, out_data, out_text};
+ghost use Rattle.iris_json.specs.Rows.{row_data};
+ghost use Rattle.iris_json.specs.Out.{why_word, which_word, post_row, refused_row, out_text};
 
-use crate::item::put_items;
-use iris_tree::{AgentId, Cite, Item, JsonText, Mem, Sequence, name_text};
+use crate::row::{Field, write_row};
+use iris_tree::{AgentId, Cite, Item, Mem, Memory, Sequence};
 use std::alloc::Global;
 
 /// What is wrong with a script.
@@ -154,212 +155,116 @@ pub enum Out {
     },
 }
 
-#[tactic(auto, using(std::proofs::lemmas::List::append_assoc), unfolding(iris_tree::specs::LocalText::value_tokens))]
-fn put_post(kind: &str, post: u64, request: u64, to: &AgentId, out: &mut JsonText) -> Mem<()>
-    ensures { OnOk result (out.new ≡ out.old ++ value_tokens (post_data kind.now post request to.now)) }
-{
-    out.begin_object()?;
-    out.key("kind")?;
-    out.string(kind)?;
-    out.key("post")?;
-    out.number(post)?;
-    out.key("request")?;
-    out.number(request)?;
-    out.key("to")?;
-    out.string(to.as_str())?;
-    out.end_object()?;
-    Ok(())
-}
+// The status of a program that ends at a fault of its script.
+const BAD_SCRIPT: u64 = 3;
 
-#[tactic(auto, using(std::proofs::lemmas::List::append_assoc), unfolding(iris_tree::specs::LocalText::value_tokens))]
-fn put_cite(alloc: Global, cite: &Cite, out: &mut JsonText) -> Mem<()>
-    ensures { OnOk result (out.new ≡ out.old ++ value_tokens (cite_data cite.now)) }
-{
-    let name = name_text(alloc, &cite.name)?;
-    out.begin_array()?;
-    out.string(name.as_str())?;
-    out.number(cite.version)?;
-    out.number(cite.stamp)?;
-    out.end_array()?;
-    Ok(())
-}
+// The status of a program that ends at a limit.
+const PAST_LIMIT: u64 = 7;
 
-fn put_cites(alloc: Global, cites: &[Cite], out: &mut JsonText) -> Mem<()>
-    ensures { OnOk result (out.new ≡ out.old ++ value_tokens (cites_data cites.now)) }
-{
-    out.begin_array()?;
-    for cite in cites {
-        put_cite(alloc, cite, out)?;
-    }
-    out.end_array()?;
-    Ok(())
-}
-
-#[tactic(auto, using(crate::proofs::Written::answer_written, std::proofs::lemmas::List::append_assoc))]
-fn put_answer(
+// The line of a post of that kind.
+fn write_post<'a>(
     alloc: Global,
-    answer: &[Item],
-    cites: &[Cite],
-    newest: bool,
+    kind: &'a str,
+    post: u64,
     request: u64,
-    out: &mut JsonText,
-) -> Mem<()>
-    ensures { OnOk result (out.new ≡ out.old ++ value_tokens (out_data (Out.Answer answer.now cites.now newest request))) }
+    to: &'a AgentId,
+) -> Mem<Vec<u8>>
+    ensures { IfOk result (λ text. text.items ≡ compact_text (row_data (post_row kind.now post request to.now))) }
 {
-    out.begin_object()?;
-    out.key("answer")?;
-    put_items(alloc, answer, out)?;
-    out.key("cites")?;
-    put_cites(alloc, cites, out)?;
-    out.key("newest")?;
-    out.boolean(newest)?;
-    out.key("request")?;
-    out.number(request)?;
-    out.end_object()?;
-    Ok(())
+    let row = [
+        ("kind", Field::Text(kind)),
+        ("post", Field::Number(post)),
+        ("request", Field::Number(request)),
+        ("to", Field::Text(to.as_str())),
+    ];
+    write_row(alloc, &row)
 }
 
-#[tactic(auto, using(crate::proofs::Written::audit_written, std::proofs::lemmas::List::append_assoc))]
-fn put_audit(alloc: Global, audit: &[Item], request: u64, out: &mut JsonText) -> Mem<()>
-    ensures { OnOk result (out.new ≡ out.old ++ value_tokens (out_data (Out.Audit audit.now request))) }
+// The line of a refused request, with the one number that tells more.
+fn write_refused(
+    alloc: Global,
+    key: &str,
+    told: u64,
+    refused: &str,
+    request: u64,
+) -> Mem<Vec<u8>>
+    ensures { IfOk result (λ text. text.items ≡ compact_text (row_data (refused_row key.now told refused.now request))) }
 {
-    out.begin_object()?;
-    out.key("audit")?;
-    put_items(alloc, audit, out)?;
-    out.key("request")?;
-    out.number(request)?;
-    out.end_object()?;
-    Ok(())
-}
-
-#[tactic(auto, using(std::proofs::lemmas::List::append_assoc), unfolding(iris_tree::specs::LocalText::value_tokens))]
-fn put_accepted(accepted: u64, request: u64, out: &mut JsonText) -> Mem<()>
-    ensures { OnOk result (out.new ≡ out.old ++ value_tokens (out_data (Out.Accepted accepted request))) }
-{
-    out.begin_object()?;
-    out.key("accepted")?;
-    out.number(accepted)?;
-    out.key("request")?;
-    out.number(request)?;
-    out.end_object()?;
-    Ok(())
-}
-
-#[tactic(auto, using(std::proofs::lemmas::List::append_assoc), unfolding(iris_tree::specs::LocalText::value_tokens))]
-fn put_back_in_time(now: u64, out: &mut JsonText) -> Mem<()>
-    ensures { OnOk result (out.new ≡ out.old ++ value_tokens (out_data (Out.BackInTime now))) }
-{
-    out.begin_object()?;
-    out.key("now")?;
-    out.number(now)?;
-    out.key("refused")?;
-    out.string("back in time")?;
-    out.end_object()?;
-    Ok(())
-}
-
-#[tactic(auto, using(std::proofs::lemmas::List::append_assoc), unfolding(iris_tree::specs::LocalText::value_tokens))]
-fn put_no_such_node(request: u64, out: &mut JsonText) -> Mem<()>
-    ensures { OnOk result (out.new ≡ out.old ++ value_tokens (out_data (Out.NoSuchNode request))) }
-{
-    out.begin_object()?;
-    out.key("refused")?;
-    out.string("no such node")?;
-    out.key("request")?;
-    out.number(request)?;
-    out.end_object()?;
-    Ok(())
-}
-
-#[tactic(auto, using(std::proofs::lemmas::List::append_assoc), unfolding(iris_tree::specs::LocalText::value_tokens))]
-fn put_refused(key: &str, told: u64, why: &str, request: u64, out: &mut JsonText) -> Mem<()>
-    ensures { OnOk result (out.new ≡ out.old ++ value_tokens (refused_data key.now told why.now request)) }
-{
-    out.begin_object()?;
-    out.key(key)?;
-    out.number(told)?;
-    out.key("refused")?;
-    out.string(why)?;
-    out.key("request")?;
-    out.number(request)?;
-    out.end_object()?;
-    Ok(())
-}
-
-#[tactic(auto, using(std::proofs::lemmas::List::append_assoc), unfolding(iris_tree::specs::LocalText::value_tokens))]
-fn put_settled(settled: u64, out: &mut JsonText) -> Mem<()>
-    ensures { OnOk result (out.new ≡ out.old ++ value_tokens (out_data (Out.Settled settled))) }
-{
-    out.begin_object()?;
-    out.key("settled")?;
-    out.number(settled)?;
-    out.end_object()?;
-    Ok(())
-}
-
-#[tactic(auto, using(std::proofs::lemmas::List::append_assoc), unfolding(iris_tree::specs::LocalText::value_tokens))]
-fn put_ended(line: u64, why: Why, out: &mut JsonText) -> Mem<()>
-    ensures { OnOk result (out.new ≡ out.old ++ value_tokens (out_data (Out.Ended line why))) }
-{
-    out.begin_object()?;
-    out.key("ended")?;
-    out.number(3)?;
-    out.key("line")?;
-    out.number(line)?;
-    out.key("why")?;
-    out.string(why.word())?;
-    out.end_object()?;
-    Ok(())
-}
-
-#[tactic(auto, using(std::proofs::lemmas::List::append_assoc), unfolding(iris_tree::specs::LocalText::value_tokens))]
-fn put_limit(count: u64, which: Which, out: &mut JsonText) -> Mem<()>
-    ensures { OnOk result (out.new ≡ out.old ++ value_tokens (out_data (Out.Limit count which))) }
-{
-    out.begin_object()?;
-    out.key("count")?;
-    out.number(count)?;
-    out.key("ended")?;
-    out.number(7)?;
-    out.key("which")?;
-    out.string(which.word())?;
-    out.end_object()?;
-    Ok(())
+    let row = [
+        (key, Field::Number(told)),
+        ("refused", Field::Text(refused)),
+        ("request", Field::Number(request)),
+    ];
+    write_row(alloc, &row)
 }
 
 /// The compact text of a line, with its keys in the order of their bytes, without LF.
-#[tactic(auto, using(iris_tree::proofs::Texts::printed))]
 pub fn write_out(alloc: Global, out: &Out) -> Mem<Vec<u8>>
     ensures { IfOk result (λ text. text.items ≡ out_text out.now) }
 {
-    let mut text = JsonText::new(alloc);
     match out {
-        Out::Query { post, request, to } => put_post("query", *post, *request, to, &mut text)?,
-        Out::Update { post, request, to } => put_post("update", *post, *request, to, &mut text)?,
+        Out::Query { post, request, to } => write_post(alloc, "query", *post, *request, to),
+        Out::Update { post, request, to } => write_post(alloc, "update", *post, *request, to),
         Out::Answer {
             answer,
             cites,
             newest,
             request,
-        } => put_answer(
+        } => write_row(
             alloc,
-            answer.as_slice(),
-            cites.as_slice(),
-            *newest,
-            *request,
-            &mut text,
-        )?,
-        Out::Audit { audit, request } => put_audit(alloc, audit.as_slice(), *request, &mut text)?,
-        Out::Accepted { accepted, request } => put_accepted(*accepted, *request, &mut text)?,
-        Out::BackInTime { now } => put_back_in_time(*now, &mut text)?,
-        Out::NoSuchNode { request } => put_no_such_node(*request, &mut text)?,
-        Out::Old { last, request } => put_refused("last", *last, "old", *request, &mut text)?,
-        Out::BadChange { at, request } => {
-            put_refused("at", *at, "bad change", *request, &mut text)?;
-        }
-        Out::Settled { settled } => put_settled(*settled, &mut text)?,
-        Out::Ended { line, why } => put_ended(*line, *why, &mut text)?,
-        Out::Limit { count, which } => put_limit(*count, *which, &mut text)?,
+            &[
+                ("answer", Field::Items(answer.as_slice())),
+                ("cites", Field::Cites(cites.as_slice())),
+                ("newest", Field::Boolean(*newest)),
+                ("request", Field::Number(*request)),
+            ],
+        ),
+        Out::Audit { audit, request } => write_row(
+            alloc,
+            &[
+                ("audit", Field::Items(audit.as_slice())),
+                ("request", Field::Number(*request)),
+            ],
+        ),
+        Out::Accepted { accepted, request } => write_row(
+            alloc,
+            &[
+                ("accepted", Field::Number(*accepted)),
+                ("request", Field::Number(*request)),
+            ],
+        ),
+        Out::BackInTime { now } => write_row(
+            alloc,
+            &[
+                ("now", Field::Number(*now)),
+                ("refused", Field::Text("back in time")),
+            ],
+        ),
+        Out::NoSuchNode { request } => write_row(
+            alloc,
+            &[
+                ("refused", Field::Text("no such node")),
+                ("request", Field::Number(*request)),
+            ],
+        ),
+        Out::Old { last, request } => write_refused(alloc, "last", *last, "old", *request),
+        Out::BadChange { at, request } => write_refused(alloc, "at", *at, "bad change", *request),
+        Out::Settled { settled } => write_row(alloc, &[("settled", Field::Number(*settled))]),
+        Out::Ended { line, why } => write_row(
+            alloc,
+            &[
+                ("ended", Field::Number(BAD_SCRIPT)),
+                ("line", Field::Number(*line)),
+                ("why", Field::Text(why.word())),
+            ],
+        ),
+        Out::Limit { count, which } => write_row(
+            alloc,
+            &[
+                ("count", Field::Number(*count)),
+                ("ended", Field::Number(PAST_LIMIT)),
+                ("which", Field::Text(which.word())),
+            ],
+        ),
     }
-    Ok(text.into_bytes())
 }

@@ -1,8 +1,8 @@
 use Rattle.std.proofs.Common.{◌≡◌, ◌++◌, rules, append_assoc, take, take_all}
 use Rattle.iris_tree.specs.LocalText.{value_tokens}
-use Rattle.iris_json.specs.Out.{cite_data}
+use Rattle.iris_json.specs.Rows.{cite_data}
 use Rattle.iris_json.proofs.Written.{tokens_more, array_written}
-use Rattle.iris_json.proofs.out.put_cites.Goals as goal
+use Rattle.iris_json.proofs.row.put_cites.Goals as goal
 
 pub loop-cite-preserved : goal.loop-cite-preserved
 loop-cite-preserved c =

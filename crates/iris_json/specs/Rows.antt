@@ -1,0 +1,43 @@
+-- A row of fields as a JSON object.
+use Rattle.std.specs.Prelude.{ℕ, List, [], ◌∷◌, map}
+use Rattle.std.specs.Borrow.{Bor}
+use Rattle.serde_json.specs.Data.{Data, unsigned, boolean, number, string, array, object, Members, no_members, member}
+use Rattle.serde_json.specs.View.{items_of}
+use Rattle.iris_base.specs.NameText.{name_text}
+use Rattle.iris_base.specs.declared.cite.Cite.{Cite}
+use Rattle.iris_json.specs.declared.row.Field.{Field}
+use Rattle.iris_json.specs.declared.row.Field.TheVariants.{Number, Text, Boolean, Items, Cites}
+use Rattle.iris_json.specs.Render.{items_data}
+
+-- a whole number
+abbrev pub count : ℕ → Data
+count n = number (unsigned n)
+
+-- a cite is the list of a name, a version and a moment
+abbrev pub cite_data : Cite → Data
+cite_data c = array (items_of (string (name_text c.name) ∷ count c.version ∷ count c.stamp ∷ []))
+
+-- cites, in their order
+abbrev pub cites_data : List Cite → Data
+cites_data cites = array (items_of (map cite_data cites))
+
+-- these members, in their order
+abbrev pub members_of : List (List ℕ × Data) → Members
+members_of [] = no_members
+members_of (f ∷ fs) = member f.0 f.1 (members_of fs)
+
+-- an object with these members, in their order
+abbrev pub row_data : List (List ℕ × Data) → Data
+row_data row = object (members_of row)
+
+-- what is written for a field
+abbrev pub field_data : Field → Data
+field_data (Number n) = count n
+field_data (Text text) = string text.now
+field_data (Boolean b) = boolean b
+field_data (Items items) = items_data items.now
+field_data (Cites cites) = cites_data cites.now
+
+-- the fields of a row, each with its key
+abbrev pub fields_of : List (Bor (List ℕ) × Field) → List (List ℕ × Data)
+fields_of row = map (λ f. (f.0.now, field_data f.1)) row
