@@ -18,10 +18,10 @@ use Rattle.iris_tree.specs.LocalText.{attrs_members}
 use Rattle.iris_json.specs.declared.city.FormError.{FormError}
 use Rattle.iris_json.specs.declared.city.FormError.TheVariants.{Shape, Memory}
 use Rattle.iris_json.specs.CityForm.{IsAttrName, AreAttrs, AreTexts}
-use Rattle.iris_json.specs.CityLine.{Gives}
+use Rattle.iris_json.specs.CityLine.{GivesCityPart}
 
 -- an error that one reader may give another may give too
-pub same_error : {X Y : Type 0} (e : FormError) (x : X) (y : Y) → Gives (Err e) x → Gives (Err e) y
+pub same_error : {X Y : Type 0} (e : FormError) (x : X) (y : Y) → GivesCityPart (Err e) x → GivesCityPart (Err e) y
 same_error Shape x y h = absurd h
 same_error Memory x y h = tt
 

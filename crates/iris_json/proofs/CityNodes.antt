@@ -5,6 +5,7 @@ use Rattle.std.specs.Ordering.{is_lt}
 use Rattle.std.specs.Cmp.Lexicographic.{nat_list_eq_equiv}
 use Rattle.std.proofs.lemmas.Map.Views.{list_any-from_Contains}
 use Rattle.serde_json.specs.Data.{Data, Items}
+use Rattle.iris_base.specs.declared.limits.TheConstants.{MAX_LABELS, MAX_NODES, MAX_CHILDREN, MAX_ATTRIBUTES, MAX_LOCAL_BYTES}
 use Rattle.iris_base.specs.declared.name.Label.{Label}
 use Rattle.iris_base.specs.Forms.{IsId}
 use Rattle.iris_base.specs.NameOrder.{label_cmp}
@@ -12,9 +13,9 @@ use Rattle.iris_tree.specs.declared.local.Local.{Local}
 use Rattle.iris_tree.specs.NodeCode.{size_of, nodes_of-list_of}
 use Rattle.iris_tree.specs.Universe.{Node, node, Nodes, no_nodes, nodes, nodes_of, label_of, local_of, children_of, insert_node, with_child}
 use Rattle.iris_json.specs.CityForm.{AreAttrs, AreTexts, EachOwn, EachOwns, HoldsTexts, EachHoldsTexts, IsCityNode, AreCityNodes}
-use Rattle.iris_json.specs.CityLimits.{levels_of, levels_below, most_of, most_below, count_children, count_attributes, count_local, passed}
+use Rattle.iris_json.specs.CityLimits.{levels_of, levels_below, greatest_count, greatest_below, count_children, count_attributes, count_local, passed_limit}
 use Rattle.iris_json.specs.CityLine.{OwnAt, IsNode, IsCity, is_node, AreNodes, none, more, put_in_order}
-use Rattle.iris_json.proofs.Measures.{within_none, none_within}
+use Rattle.iris_json.proofs.Extents.{within_none, none_within}
 use Rattle.iris_json.proofs.NodeReading.{children-with_child}
 
 -- ---- the form, beside the limits
@@ -73,7 +74,7 @@ texts_found first (node called held below) label local same made own all =
 -- ---- the form within the limits
 
 mutual
-  form_fits : (kinds : List (List ℕ)) (levels : ℕ) (n : Node) → HasForm kinds n → EachHoldsTexts n → levels_of n ≤ levels → most_of count_children n ≤ 2000 → most_of count_attributes n ≤ 64 → most_of count_local n ≤ 1024 → IsCityNode kinds levels n
+  form_fits : (kinds : List (List ℕ)) (levels : ℕ) (n : Node) → HasForm kinds n → EachHoldsTexts n → levels_of n ≤ levels → greatest_count count_children n ≤ MAX_CHILDREN → greatest_count count_attributes n ≤ MAX_ATTRIBUTES → greatest_count count_local n ≤ MAX_LOCAL_BYTES → IsCityNode kinds levels n
   form_fits kinds zero (node label local below) form held deep wide many long = absurd (omega (arith, deep))
   form_fits kinds (suc levels) (node label local below) form held deep wide many long = (
     record { kind = form.0.0; id = form.0.1; attrs = form.0.2; texts = held.0; few = omega (arith, many); no_plain = form.0.3; short = omega (arith, long) },
@@ -81,7 +82,7 @@ mutual
     forms_fit kinds levels below form.1 held.1 (omega (arith, deep)) (omega (arith, wide)) (omega (arith, many)) (omega (arith, long)),
   )
 
-  forms_fit : (kinds : List (List ℕ)) (levels : ℕ) (ns : Nodes) → HaveForm kinds ns → EachOwns HoldsTexts ns → levels_below ns ≤ levels → most_below count_children ns ≤ 2000 → most_below count_attributes ns ≤ 64 → most_below count_local ns ≤ 1024 → AreCityNodes kinds levels ns
+  forms_fit : (kinds : List (List ℕ)) (levels : ℕ) (ns : Nodes) → HaveForm kinds ns → EachOwns HoldsTexts ns → levels_below ns ≤ levels → greatest_below count_children ns ≤ MAX_CHILDREN → greatest_below count_attributes ns ≤ MAX_ATTRIBUTES → greatest_below count_local ns ≤ MAX_LOCAL_BYTES → AreCityNodes kinds levels ns
   forms_fit kinds levels no_nodes form held deep wide many long = tt
   forms_fit kinds levels (nodes n ns) form held deep wide many long = (
     form_fits kinds levels n form.0 held.0 (omega (arith, deep)) (omega (arith, wide)) (omega (arith, many)) (omega (arith, long)),
@@ -89,24 +90,24 @@ mutual
   )
 
 -- a tree that is read and passes no limit has the nodes of a city
-pub tree_fits : (kinds : List (List ℕ)) (agent : List ℕ) (d : Data) (tree : Node) → IsCity d kinds agent tree → EachHoldsTexts tree → passed tree ≡ None → IsCityNode kinds 16 tree
+pub tree_fits : (kinds : List (List ℕ)) (agent : List ℕ) (d : Data) (tree : Node) → IsCity d kinds agent tree → EachHoldsTexts tree → passed_limit tree ≡ None → IsCityNode kinds MAX_LABELS tree
 tree_fits kinds agent d tree is held within =
     let w = within_none tree within in
-    form_fits kinds 16 tree (node_form kinds is.tree_at.0 tree is.tree_at.2) held w.labels w.children w.attributes w.local
+    form_fits kinds MAX_LABELS tree (node_form kinds is.tree_at.0 tree is.tree_at.2) held w.labels w.children w.attributes w.local
 
 -- ---- and back
 
 abbrev Bounds : ℕ → ℕ → ℕ → ℕ → ℕ → Type 0
-Bounds levels labels children attributes local = (labels ≤ levels) × (children ≤ 2000) × (attributes ≤ 64) × (local ≤ 1024)
+Bounds levels labels children attributes local = (labels ≤ levels) × (children ≤ MAX_CHILDREN) × (attributes ≤ MAX_ATTRIBUTES) × (local ≤ MAX_LOCAL_BYTES)
 
 mutual
-  bounded : (kinds : List (List ℕ)) (levels : ℕ) (n : Node) → IsCityNode kinds levels n → Bounds levels (levels_of n) (most_of count_children n) (most_of count_attributes n) (most_of count_local n)
+  bounded : (kinds : List (List ℕ)) (levels : ℕ) (n : Node) → IsCityNode kinds levels n → Bounds levels (levels_of n) (greatest_count count_children n) (greatest_count count_attributes n) (greatest_count count_local n)
   bounded kinds zero n fits = absurd fits
   bounded kinds (suc levels) (node label local below) fits =
       let b = all_bounded kinds levels below fits.2 in
       (omega (arith, b.0), omega (arith, b.1, fits.1), omega (arith, b.2, fits.0.few), omega (arith, b.3, fits.0.short))
 
-  all_bounded : (kinds : List (List ℕ)) (levels : ℕ) (ns : Nodes) → AreCityNodes kinds levels ns → Bounds levels (levels_below ns) (most_below count_children ns) (most_below count_attributes ns) (most_below count_local ns)
+  all_bounded : (kinds : List (List ℕ)) (levels : ℕ) (ns : Nodes) → AreCityNodes kinds levels ns → Bounds levels (levels_below ns) (greatest_below count_children ns) (greatest_below count_attributes ns) (greatest_below count_local ns)
   all_bounded kinds levels no_nodes fit = (omega arith, omega arith, omega arith, omega arith)
   all_bounded kinds levels (nodes n ns) fit =
       let one = bounded kinds levels n fit.0 in
@@ -114,7 +115,7 @@ mutual
       (omega (arith, one.0, all.0), omega (arith, one.1, all.1), omega (arith, one.2, all.2), omega (arith, one.3, all.3))
 
 -- a city passes no limit
-pub city_passes_none : (kinds : List (List ℕ)) (tree : Node) → IsCityNode kinds 16 tree → size_of tree ≤ 20000 → passed tree ≡ None
+pub city_passes_none : (kinds : List (List ℕ)) (tree : Node) → IsCityNode kinds MAX_LABELS tree → size_of tree ≤ MAX_NODES → passed_limit tree ≡ None
 city_passes_none kinds tree fits few =
-    let b = bounded kinds 16 tree fits in
+    let b = bounded kinds MAX_LABELS tree fits in
     none_within tree (record { nodes = few; labels = b.0; children = b.1; attributes = b.2; local = b.3 })

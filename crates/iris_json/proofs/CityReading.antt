@@ -9,10 +9,10 @@ use Rattle.iris_json.specs.declared.city.FormError.TheVariants as forms
 use Rattle.iris_json.specs.Errors.{form_error}
 use Rattle.iris_json.specs.Extents.{GivesParts}
 use Rattle.iris_json.specs.Lines.{IsJson}
-use Rattle.iris_json.specs.CityLine.{PlaceAt, TreeAt, IsCity, IsShort, Gives, RefusesCity}
+use Rattle.iris_json.specs.CityLine.{PlaceAt, TreeAt, IsCity, IsShortCityLine, GivesCityPart, RefusesCity}
 
 -- an error that a reader of a part may give the reader of all parts may give too
-pub parts_refused : {X : Type 0} (e : FormError) (x : X) (kinds : List (List ℕ)) (agent : List ℕ) (tree : Node) → Gives (Err e) x → GivesParts (Err e) kinds agent tree
+pub parts_refused : {X : Type 0} (e : FormError) (x : X) (kinds : List (List ℕ)) (agent : List ℕ) (tree : Node) → GivesCityPart (Err e) x → GivesParts (Err e) kinds agent tree
 parts_refused Shape x kinds agent tree h = absurd h
 parts_refused forms.Memory x kinds agent tree h = tt
 
@@ -35,7 +35,7 @@ one_place new old name top label id agent made none named tops ids =
     ∙ ap (λ (n : List Label). (n, id) ∷ []) (named ∙ ap (λ (l : Label). l ∷ []) tops) ∙ ap (λ (i : List ℕ). (label ∷ [], i) ∷ []) ids
 
 -- what a text tells whose value gives no parts
-pub form_refused : (bytes : List ℕ) (d : Data) (e : FormError) → IsShort bytes → IsJson bytes d → ((kinds : List (List ℕ)) (agent : List ℕ) (tree : Node) → IsCity d kinds agent tree → GivesParts (Err e) kinds agent tree)
+pub form_refused : (bytes : List ℕ) (d : Data) (e : FormError) → IsShortCityLine bytes → IsJson bytes d → ((kinds : List (List ℕ)) (agent : List ℕ) (tree : Node) → IsCity d kinds agent tree → GivesParts (Err e) kinds agent tree)
     → RefusesCity bytes (form_error e)
 form_refused bytes d Shape short j only = (short, (d, j, only))
 form_refused bytes d forms.Memory short j only = short

@@ -11,11 +11,14 @@ use Rattle.std.proofs.Math.Nat.{max-le}
 use Rattle.std.proofs.lemmas.Map.Views.{Contains-from_any}
 use Rattle.std.proofs.lemmas.Slice.Eq.{bytes_eq-Decides}
 use Rattle.std.proofs.lemmas.Str.{IsUtf8-append, IsUtf8-from_ascii}
+use Rattle.serde_json.specs.Read.{max_depth}
 use Rattle.json.proofs.Printed.Utf8.{IsUtf8-are_ascii}
 use Rattle.serde_json.specs.Data.{Data, string, object, no_members, member, depth, items_depth, members_depth}
 use Rattle.serde_json.specs.View.{items_of}
 use Rattle.serde_json.specs.Written.{compact_text}
+use Rattle.iris_base.specs.declared.limits.TheConstants.{MAX_KIND_BYTES, MAX_ID_BYTES, MAX_TAG_BYTES, MAX_AGENT_BYTES, MAX_LABELS, MAX_CITY_BYTES}
 use Rattle.iris_base.specs.declared.letters.Letters.{Letters}
+use Rattle.iris_base.specs.declared.letters.TheConstants.{DASH}
 use Rattle.iris_base.specs.declared.letters.Letters.TheVariants.{Lower, LowerOrDigit, Word, Letter, WordOrDash}
 use Rattle.iris_base.specs.declared.name.Label.{Label}
 use Rattle.iris_base.specs.Forms.{IsWord, IsKind, IsAgentId}
@@ -30,8 +33,8 @@ use Rattle.iris_json.specs.declared.city.City.{City}
 use Rattle.iris_json.specs.Lines.{IsJson}
 use Rattle.iris_json.specs.Render.{node_data, nodes_data}
 use Rattle.iris_json.specs.CityForm.{AreKinds, AreAttrs, IsCityOwn, IsCityNode, AreCityNodes}
-use Rattle.iris_json.specs.CityLine.{texts, OwnAt, IsNode, AreNodes, none, more, put_in_order, in_order, IsCity, ReadsCity, IsHeldBy}
-use Rattle.iris_json.specs.CityText.{bare, bare_items, places_data, city_data}
+use Rattle.iris_json.specs.CityLine.{texts_data, OwnAt, IsNode, AreNodes, none, more, put_in_order, in_order, IsCity, ReadsCity, IsHeldBy}
+use Rattle.iris_json.specs.CityText.{without_plain, items_without_plain, places_data, city_data}
 use Rattle.iris_json.proofs.CityNodes.{city_passes_none}
 use Rattle.iris_json.proofs.NodeReading.{from_parts}
 use Rattle.iris_json.proofs.TextValues.{KeysAfter, IsOfTexts, AreOfTexts, HasTexts, text_is_json}
@@ -88,7 +91,7 @@ empty : {A : Type 0} (xs : List A) → length xs ≡ 0 → xs ≡ []
 empty [] h = refl
 empty (x ∷ xs) h = absurd (omega arith)
 
-own_at : (kinds : List (List ℕ)) (label : Label) (local : Local) (below : Nodes) → IsCityOwn kinds label local → OwnAt kinds (bare (node_data (node label local below))) label local
+own_at : (kinds : List (List ℕ)) (label : Label) (local : Local) (below : Nodes) → IsCityOwn kinds label local → OwnAt kinds (without_plain (node_data (node label local below))) label local
 own_at kinds label local below own = (
   refl,
   (refl, refl, Contains-from_any (λ x y. (bytes_eq-Decides x y).0) label.kind kinds own.kind, own.id),
@@ -96,16 +99,16 @@ own_at kinds label local below own = (
 )
 
 mutual
-  node_reads : (kinds : List (List ℕ)) (levels : ℕ) (n : Node) → IsCityNode kinds levels n → IsOrdered n → IsNode kinds (bare (node_data n)) n
+  node_reads : (kinds : List (List ℕ)) (levels : ℕ) (n : Node) → IsCityNode kinds levels n → IsOrdered n → IsNode kinds (without_plain (node_data n)) n
   node_reads kinds zero n h ordered = absurd h
   node_reads kinds (suc levels) (node label local below) h ordered =
-      from_parts kinds (bare (node_data (node label local below))) (node label local below) (bare_items (nodes_data below)) (list_of below)
+      from_parts kinds (without_plain (node_data (node label local below))) (node label local below) (items_without_plain (nodes_data below)) (list_of below)
       (own_at kinds label local below h.0) (inl refl) (nodes_read kinds levels below h.2 ordered) (differ below ordered) (in_order-ordered below ordered)
 
-  nodes_read : (kinds : List (List ℕ)) (levels : ℕ) (ns : Nodes) → AreCityNodes kinds levels ns → AreOrdered ns → AreNodes kinds (bare_items (nodes_data ns)) (list_of ns)
+  nodes_read : (kinds : List (List ℕ)) (levels : ℕ) (ns : Nodes) → AreCityNodes kinds levels ns → AreOrdered ns → AreNodes kinds (items_without_plain (nodes_data ns)) (list_of ns)
   nodes_read kinds levels no_nodes h ordered = none
   nodes_read kinds levels (nodes n ns) h ordered =
-      more (bare (node_data n)) n (bare_items (nodes_data ns)) (list_of ns) (node_reads kinds levels n h.0 ordered.0) (nodes_read kinds levels ns h.1 ordered.2)
+      more (without_plain (node_data n)) n (items_without_plain (nodes_data ns)) (list_of ns) (node_reads kinds levels n h.0 ordered.0) (nodes_read kinds levels ns h.1 ordered.2)
 
 -- ---- what is written is of texts
 
@@ -123,7 +126,7 @@ is_kind (k ∷ kinds) kind each h = kind_step (bytes_eq kind k) kind k kinds ref
 
 kinds_texts : (kinds : List (List ℕ)) → AllByRecursion IsKind kinds → AreOfTexts (items_of (map string kinds))
 kinds_texts [] each = tt
-kinds_texts (k ∷ kinds) each = (word_texts Lower Lower 16 k each.0, kinds_texts kinds each.1)
+kinds_texts (k ∷ kinds) each = (word_texts Lower Lower MAX_KIND_BYTES k each.0, kinds_texts kinds each.1)
 
 attrs_after : (name : List ℕ) (pairs : Pairs) → AllByRecursion (λ y. slice_cmp nat_cmp name y ≡ Less) (keys_of pairs) → KeysAfter name (attrs_members pairs)
 attrs_after name [] h = tt
@@ -132,14 +135,14 @@ attrs_after name (p ∷ pairs) h = (h.0, attrs_after name pairs h.1)
 attrs_texts : (pairs : Pairs) → AreAttrs pairs → AllByRecursion (λ p. IsUtf8 p.1) pairs → IsStrictlySortedBy (slice_cmp nat_cmp) (keys_of pairs) → HasTexts (attrs_members pairs)
 unfolding IsStrictlySortedBy
 attrs_texts [] named utf8 rise = tt
-attrs_texts (p ∷ pairs) named utf8 rise = (word_texts Letter WordOrDash 24 p.0 named.0.0, utf8.0, attrs_after p.0 pairs rise.0, attrs_texts pairs named.1 utf8.1 rise.1)
+attrs_texts (p ∷ pairs) named utf8 rise = (word_texts Letter WordOrDash MAX_TAG_BYTES p.0 named.0.0, utf8.0, attrs_after p.0 pairs rise.0, attrs_texts pairs named.1 utf8.1 rise.1)
 
 mutual
-  node_texts : (kinds : List (List ℕ)) (levels : ℕ) (n : Node) → AllByRecursion IsKind kinds → IsCityNode kinds levels n → IsOfTexts (bare (node_data n))
+  node_texts : (kinds : List (List ℕ)) (levels : ℕ) (n : Node) → AllByRecursion IsKind kinds → IsCityNode kinds levels n → IsOfTexts (without_plain (node_data n))
   node_texts kinds zero n each h = absurd h
   node_texts kinds (suc levels) (node label local below) each h =
-      let kind = word_texts Lower Lower 16 label.kind (is_kind kinds label.kind each h.0.kind) in
-      let id = word_texts Word Word 24 label.id h.0.id in (
+      let kind = word_texts Lower Lower MAX_KIND_BYTES label.kind (is_kind kinds label.kind each h.0.kind) in
+      let id = word_texts Word Word MAX_ID_BYTES label.id h.0.id in (
         IsUtf8-are_ascii (codes "attrs") refl,
         attrs_texts local.attrs h.0.attrs h.0.texts.utf8 h.0.texts.rise,
         (refl, (refl, (refl, tt))),
@@ -151,7 +154,7 @@ mutual
         ),
       )
 
-  nodes_texts : (kinds : List (List ℕ)) (levels : ℕ) (ns : Nodes) → AllByRecursion IsKind kinds → AreCityNodes kinds levels ns → AreOfTexts (bare_items (nodes_data ns))
+  nodes_texts : (kinds : List (List ℕ)) (levels : ℕ) (ns : Nodes) → AllByRecursion IsKind kinds → AreCityNodes kinds levels ns → AreOfTexts (items_without_plain (nodes_data ns))
   nodes_texts kinds levels no_nodes each h = tt
   nodes_texts kinds levels (nodes n ns) each h = (node_texts kinds levels n each h.0, nodes_texts kinds levels ns each h.1)
 
@@ -173,12 +176,12 @@ own_depth attrs below most no_depth fits =
     omega (arith, inner)
 
 mutual
-  node_depth : (kinds : List (List ℕ)) (levels : ℕ) (n : Node) → IsCityNode kinds levels n → depth (bare (node_data n)) ≤ levels + levels
+  node_depth : (kinds : List (List ℕ)) (levels : ℕ) (n : Node) → IsCityNode kinds levels n → depth (without_plain (node_data n)) ≤ levels + levels
   node_depth kinds zero n h = absurd h
   node_depth kinds (suc levels) (node label local below) h =
-      omega (arith, own_depth (members_depth (attrs_members local.attrs)) (items_depth (bare_items (nodes_data below))) (levels + levels) (attrs_depth local.attrs) (nodes_depth kinds levels below h.2))
+      omega (arith, own_depth (members_depth (attrs_members local.attrs)) (items_depth (items_without_plain (nodes_data below))) (levels + levels) (attrs_depth local.attrs) (nodes_depth kinds levels below h.2))
 
-  nodes_depth : (kinds : List (List ℕ)) (levels : ℕ) (ns : Nodes) → AreCityNodes kinds levels ns → items_depth (bare_items (nodes_data ns)) ≤ levels + levels
+  nodes_depth : (kinds : List (List ℕ)) (levels : ℕ) (ns : Nodes) → AreCityNodes kinds levels ns → items_depth (items_without_plain (nodes_data ns)) ≤ levels + levels
   nodes_depth kinds levels no_nodes h = omega arith
   nodes_depth kinds levels (nodes n ns) h = max-le (node_depth kinds levels n h.0) (nodes_depth kinds levels ns h.1)
 
@@ -187,37 +190,37 @@ mutual
 -- the value of a line, by the parts of a city
 abbrev parts_data : List (List ℕ) → List (List ℕ) → List (List Label × List ℕ) → Node → Data
 parts_data agents kinds place tree = object
-    (member (codes "agents") (texts agents)
-    (member (codes "kinds") (texts kinds)
+    (member (codes "agents") (texts_data agents)
+    (member (codes "kinds") (texts_data kinds)
     (member (codes "place") (places_data place)
-    (member (codes "tree") (bare (node_data tree))
+    (member (codes "tree") (without_plain (node_data tree))
     no_members))))
 
 -- the value of the line of a city of one agent
 abbrev line_data : List (List ℕ) → List ℕ → Node → Data
 line_data kinds agent tree = parts_data (agent ∷ []) kinds ((label_of tree ∷ [], agent) ∷ []) tree
 
-line_is_city : (kinds : List (List ℕ)) (agent : List ℕ) (tree : Node) → AreKinds kinds → IsAgentId agent → IsCityNode kinds 16 tree → IsOrdered tree → IsCity (line_data kinds agent tree) kinds agent tree
+line_is_city : (kinds : List (List ℕ)) (agent : List ℕ) (tree : Node) → AreKinds kinds → IsAgentId agent → IsCityNode kinds MAX_LABELS tree → IsOrdered tree → IsCity (line_data kinds agent tree) kinds agent tree
 line_is_city kinds agent tree are is fits ordered = record {
   keys = refl;
   kinds_at = (refl, are);
   agent_at = (refl, is);
-  tree_at = (bare (node_data tree), refl, node_reads kinds 16 tree fits ordered);
+  tree_at = (without_plain (node_data tree), refl, node_reads kinds MAX_LABELS tree fits ordered);
   place_at = refl;
 }
 
-own_of : (kinds : List (List ℕ)) (levels : ℕ) (n : Node) → IsCityNode kinds (suc levels) n → IsCityOwn kinds (label_of n) (local_of n)
-own_of kinds levels (node label local below) h = h.0
+own_of : (kinds : List (List ℕ)) (n : Node) → IsCityNode kinds MAX_LABELS n → IsCityOwn kinds (label_of n) (local_of n)
+own_of kinds (node label local below) h = h.0
 
 label_texts : (kinds : List (List ℕ)) (label : Label) (local : Local) → AllByRecursion IsKind kinds → IsCityOwn kinds label local → IsUtf8 (label_text label)
 label_texts kinds label local each own =
-    IsUtf8-append label.kind (45 ∷ label.id) (word_texts Lower Lower 16 label.kind (is_kind kinds label.kind each own.kind))
-    (IsUtf8-append (45 ∷ []) label.id (IsUtf8-are_ascii (45 ∷ []) refl) (word_texts Word Word 24 label.id own.id))
+    IsUtf8-append label.kind (DASH ∷ label.id) (word_texts Lower Lower MAX_KIND_BYTES label.kind (is_kind kinds label.kind each own.kind))
+    (IsUtf8-append (DASH ∷ []) label.id (IsUtf8-are_ascii (DASH ∷ []) refl) (word_texts Word Word MAX_ID_BYTES label.id own.id))
 
-line_texts : (kinds : List (List ℕ)) (agent : List ℕ) (tree : Node) → AreKinds kinds → IsAgentId agent → IsCityNode kinds 16 tree → IsOfTexts (line_data kinds agent tree)
+line_texts : (kinds : List (List ℕ)) (agent : List ℕ) (tree : Node) → AreKinds kinds → IsAgentId agent → IsCityNode kinds MAX_LABELS tree → IsOfTexts (line_data kinds agent tree)
 line_texts kinds agent tree are is fits =
-    let agent_text = word_texts LowerOrDigit LowerOrDigit 16 agent is in
-    let top_text = label_texts kinds (label_of tree) (local_of tree) are.each (own_of kinds 15 tree fits) in (
+    let agent_text = word_texts LowerOrDigit LowerOrDigit MAX_AGENT_BYTES agent is in
+    let top_text = label_texts kinds (label_of tree) (local_of tree) are.each (own_of kinds tree fits) in (
       IsUtf8-are_ascii (codes "agents") refl,
       (agent_text, tt),
       (refl, (refl, (refl, tt))),
@@ -229,15 +232,15 @@ line_texts kinds agent tree are is fits =
           IsUtf8-are_ascii (codes "place") refl,
           ((top_text, (agent_text, tt)), tt),
           (refl, tt),
-          (IsUtf8-are_ascii (codes "tree") refl, node_texts kinds 16 tree are.each fits, tt, tt),
+          (IsUtf8-are_ascii (codes "tree") refl, node_texts kinds MAX_LABELS tree are.each fits, tt, tt),
         ),
       ),
     )
 
-line_depth : (kinds : List (List ℕ)) (agent : List ℕ) (tree : Node) → IsCityNode kinds 16 tree → depth (line_data kinds agent tree) ≤ 127
+line_depth : (kinds : List (List ℕ)) (agent : List ℕ) (tree : Node) → IsCityNode kinds MAX_LABELS tree → depth (line_data kinds agent tree) ≤ max_depth
 line_depth kinds agent tree fits =
-    let below : depth (bare (node_data tree)) ≤ 32 = node_depth kinds 16 tree fits in
-    let inner : max 1 (max (suc (items_depth (items_of (map string kinds)))) (max 2 (max (depth (bare (node_data tree))) 0))) ≤ 126 =
+    let below : depth (without_plain (node_data tree)) ≤ MAX_LABELS + MAX_LABELS = node_depth kinds MAX_LABELS tree fits in
+    let inner : max 1 (max (suc (items_depth (items_of (map string kinds)))) (max 2 (max (depth (without_plain (node_data tree))) 0))) ≤ MAX_LABELS + MAX_LABELS =
     max-le (omega arith) (max-le (omega (arith, texts_depth kinds)) (max-le (omega arith) (max-le (omega (arith, below)) (omega arith)))) in
     omega (arith, inner)
 
@@ -247,7 +250,7 @@ sole (x ∷ []) h = (x, refl)
 sole (x ∷ y ∷ xs) h = absurd (omega arith)
 
 -- the compact text of a city's line is a spelling of it
-pub city_reads : (city : City) → IsOrdered city.tree → (line : List ℕ) → line ≡ compact_text (city_data city) → length line ≤ 4194304
+pub city_reads : (city : City) → IsOrdered city.tree → (line : List ℕ) → line ≡ compact_text (city_data city) → length line ≤ MAX_CITY_BYTES
     → (agent : List ℕ) × ReadsCity line city.kinds agent city.tree × IsHeldBy city agent
 city_reads city ordered line written short =
     let one = sole city.agents city.one_agent in

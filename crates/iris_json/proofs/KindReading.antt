@@ -10,9 +10,10 @@ use Rattle.serde_json.specs.declared.value.Value.{Value}
 use Rattle.serde_json.specs.Data.{Data, null, boolean, number, string, array, object, Items, no_items, item}
 use Rattle.serde_json.specs.Find.{as_array}
 use Rattle.serde_json.specs.View.{view, items_view, items_of}
+use Rattle.iris_base.specs.declared.limits.TheConstants.{MAX_KINDS}
 use Rattle.iris_base.specs.Forms.{IsKind}
 use Rattle.iris_json.specs.CityForm.{AreKinds}
-use Rattle.iris_json.specs.CityLine.{texts}
+use Rattle.iris_json.specs.CityLine.{texts_data}
 
 -- a list at a key is an array there
 pub array_there : (o : Option Data) (items : Items) → Some items ≡ option_and_then as_array o → o ≡ Some (array items)
@@ -38,7 +39,7 @@ not_sole o (w ∷ x ∷ vs) d at other is = let e = array_there o (items_view (w
 
 -- a list that is no pair of texts
 pub no_pair : (o : Option Data) (v : Value) (vs : List Value) (first second : List ℕ) → o ≡ Some (array (item (view v) no_items)) → Some (items_view vs) ≡ as_array (view v) → length vs ≢ 2
-    → o ≡ Some (array (item (texts (first ∷ second ∷ [])) no_items)) → ⊥
+    → o ≡ Some (array (item (texts_data (first ∷ second ∷ [])) no_items)) → ⊥
 no_pair o v vs first second at inner other is = apart vs (array_there (Some (view v)) (items_view vs) inner) other
   where
     apart : (vs : List Value) → Some (view v) ≡ Some (array (items_view vs)) → length vs ≢ 2 → ⊥
@@ -89,10 +90,10 @@ text_here (x ∷ xs) v after (d ∷ done) (k ∷ kinds) whole front =
     (later.0, later.1, joined, later.3)
 
 -- the texts at a key, which has these values
-pub texts_at : (o : Option Data) (vs : List Value) (kinds : List (List ℕ)) → Some (items_view vs) ≡ option_and_then as_array o → o ≡ Some (texts kinds) → items_view vs ≡ items_of (map string kinds)
+pub texts_at : (o : Option Data) (vs : List Value) (kinds : List (List ℕ)) → Some (items_view vs) ≡ option_and_then as_array o → o ≡ Some (texts_data kinds) → items_view vs ≡ items_of (map string kinds)
 texts_at o vs kinds at is = let e = array_there o (items_view vs) at in cc
 
-pub kinds_len : (o : Option Data) (vs : List Value) (kinds : List (List ℕ)) → Some (items_view vs) ≡ option_and_then as_array o → o ≡ Some (texts kinds) → length kinds ≡ length vs
+pub kinds_len : (o : Option Data) (vs : List Value) (kinds : List (List ℕ)) → Some (items_view vs) ≡ option_and_then as_array o → o ≡ Some (texts_data kinds) → length kinds ≡ length vs
 kinds_len o vs kinds at is = texts_len vs kinds (texts_at o vs kinds at is)
 
 -- ---- different kinds
@@ -150,7 +151,7 @@ so_step items i kinds s v within is k read fresh new made =
 
 -- the kind that the next value is in any reading
 pub next_kind : (o : Option Data) (items : List Value) (i : ℕ) (done kinds : List (List ℕ)) → Some (items_view items) ≡ option_and_then as_array o → KindsSo items i done → (v : Value) → i < length items → v ≡ get_or items i v
-    → (o ≡ Some (texts kinds)) × AreKinds kinds → (k : List ℕ) × (view v ≡ string k) × IsKind k × (list_any (λ y. bytes_eq y k) done ≡ false)
+    → (o ≡ Some (texts_data kinds)) × AreKinds kinds → (k : List ℕ) × (view v ≡ string k) × IsKind k × (list_any (λ y. bytes_eq y k) done ≡ false)
 next_kind o items i done kinds at s v within is has =
     let parted : items ≡ take i items ++ v ∷ drop (suc i) items =
     sym (take-append-drop i items) ∙ ap (λ (xs : List Value). take i items ++ xs) (drop-cons items i v within ∙ ap (λ (x : Value). x ∷ drop (suc i) items) (sym is)) in
@@ -160,8 +161,8 @@ next_kind o items i done kinds at s v within is has =
     (here.0, here.3, kind_here IsKind done here.0 here.1 each, none_before done here.0 here.1 differ)
 
 -- all of the values are kinds
-pub so_found : (o : Option Data) (items : List Value) (i : ℕ) (kinds : List (List ℕ)) → Some (items_view items) ≡ option_and_then as_array o → KindsSo items i kinds → length items ≤ i → 0 < length items → length items ≤ 16
-    → (o ≡ Some (texts kinds)) × AreKinds kinds
+pub so_found : (o : Option Data) (items : List Value) (i : ℕ) (kinds : List (List ℕ)) → Some (items_view items) ≡ option_and_then as_array o → KindsSo items i kinds → length items ≤ i → 0 < length items → length items ≤ MAX_KINDS
+    → (o ≡ Some (texts_data kinds)) × AreKinds kinds
 so_found o items i kinds at s end some few =
     let same : items_view items ≡ items_of (map string kinds) = ap items_view (sym (take_all i items end)) ∙ s.same in
     let len = texts_len items kinds same in (
@@ -170,5 +171,5 @@ so_found o items i kinds at s end some few =
     )
 
 -- and there are no others
-pub so_only : (o : Option Data) (items : List Value) (i : ℕ) (kinds others : List (List ℕ)) → Some (items_view items) ≡ option_and_then as_array o → KindsSo items i kinds → length items ≤ i → o ≡ Some (texts others) → kinds ≡ others
+pub so_only : (o : Option Data) (items : List Value) (i : ℕ) (kinds others : List (List ℕ)) → Some (items_view items) ≡ option_and_then as_array o → KindsSo items i kinds → length items ≤ i → o ≡ Some (texts_data others) → kinds ≡ others
 so_only o items i kinds others at s end has = texts_same kinds others (sym s.same ∙ ap items_view (take_all i items end) ∙ texts_at o items others at has)

@@ -6,7 +6,7 @@ pub mod CityWriting
 pub mod KindReading
 pub mod LabelReading
 pub mod LineReading
-pub mod Measures
+pub mod Extents
 pub mod MemberKeys
 pub mod NodeReading
 pub mod Written

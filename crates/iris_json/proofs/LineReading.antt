@@ -21,7 +21,7 @@ use Rattle.iris_json.specs.declared.line.LineError.TheVariants.{NotJson, BadLine
 use Rattle.iris_json.specs.declared.line.LineWhy.{LineWhy}
 use Rattle.iris_json.specs.declared.line.LineWhy.TheVariants as whys
 use Rattle.iris_json.specs.Errors.{name_error}
-use Rattle.iris_json.specs.Lines.{IsJson, is_among, all_among, has_only, Does, TextAt, NumberAt, ListAt, IsUpdate, IsMoment, a_query, an_update, an_audit, a_moment, a_settle, HasNames, HasNumbers, HasWhole, IsWhole, HasChanges, AreChanges, Says, IsLine, Lacks, ReadsLine, GivesLine, RefusesValue, RefusesLine, Refuses}
+use Rattle.iris_json.specs.Lines.{IsJson, is_among, all_among, has_only, Does, TextAt, NumberAt, ListAt, IsUpdate, IsMoment, a_query, an_update, an_audit, a_moment, a_settle, HasNames, HasNumbers, HasWhole, IsWhole, HasChanges, AreLineChanges, SaysLine, IsLine, LineLacks, ReadsLine, GivesLine, RefusesValue, RefusesLine, RefusesLinePart}
 
 -- ---- the bytes
 
@@ -106,8 +106,8 @@ named d text name at is same other there = let e : other ≡ text = cc (at, ther
 numbered : (key : List ℕ) (least : ℕ) (d : Data) (n : Num) (value : ℕ) → NumberAt key d n → IsWhole least n value → HasWhole key least d
 numbered key least d n value at is other there = let e : n ≡ other = cc (at, there) in (value, subst (λ (m : Num). IsWhole least m value) e is)
 
-changed : (d : Data) (items : Items) (changes : List Change) → ListAt (codes "change") d items → AreChanges items changes → HasChanges d
-changed d items changes at are other there = let e : items ≡ other = cc (at, there) in (changes, subst (λ (i : Items). AreChanges i changes) e are)
+changed : (d : Data) (items : Items) (changes : List Change) → ListAt (codes "change") d items → AreLineChanges items changes → HasChanges d
+changed d items changes at are other there = let e : items ≡ other = cc (at, there) in (changes, subst (λ (i : Items). AreLineChanges i changes) e are)
 
 pub is_query : (d : Data) (text : List ℕ) → Does (codes "query") d → has_only (codes "do" ∷ codes "query" ∷ []) d ≡ true → TextAt (codes "query") d text → IsLine d (Query text)
 is_query d text does only at = record {
@@ -156,7 +156,7 @@ update_numbers : (d : Data) (text : List ℕ) (n : Num) (items : Items) (value :
 update_numbers d text n items value update whole =
     (numbered (codes "no") 1 d n value update.number_at whole, whole_none (codes "at") 0 d (missing_key (codes "do" ∷ codes "name" ∷ codes "no" ∷ codes "change" ∷ []) (codes "at") d update.form.only refl))
 
-pub is_update : (d : Data) (text : List ℕ) (n : Num) (items : Items) (name : List Label) (value : ℕ) (changes : List Change) → IsUpdate d text n items → IsName name → text ≡ name_text name → IsWhole 1 n value → AreChanges items changes
+pub is_update : (d : Data) (text : List ℕ) (n : Num) (items : Items) (name : List Label) (value : ℕ) (changes : List Change) → IsUpdate d text n items → IsName name → text ≡ name_text name → IsWhole 1 n value → AreLineChanges items changes
     → IsLine d (Update name value changes)
 is_update d text n items name value changes update is same whole are = record {
   shape = an_update text n items update;
@@ -168,14 +168,14 @@ is_update d text n items name value changes update is same whole are = record {
 
 -- ---- what is of its form and lacks something else
 
-pub now_refused : (d : Data) (n : Num) → IsMoment d n → ((value : ℕ) → IsWhole 0 n value → ⊥) → Lacks whys.Number d
+pub now_refused : (d : Data) (n : Num) → IsMoment d n → ((value : ℕ) → IsWhole 0 n value → ⊥) → LineLacks whys.Number d
 now_refused d n moment not = (
   a_moment n moment,
   names_none d (missing_key (codes "do" ∷ codes "at" ∷ []) (codes "name") d moment.form.only refl),
   λ has. (let there = has.1 n moment.number_at in not there.0 there.1),
 )
 
-pub update_number_refused : (d : Data) (text : List ℕ) (n : Num) (items : Items) (name : List Label) → IsUpdate d text n items → IsName name → text ≡ name_text name → ((value : ℕ) → IsWhole 1 n value → ⊥) → Lacks whys.Number d
+pub update_number_refused : (d : Data) (text : List ℕ) (n : Num) (items : Items) (name : List Label) → IsUpdate d text n items → IsName name → text ≡ name_text name → ((value : ℕ) → IsWhole 1 n value → ⊥) → LineLacks whys.Number d
 update_number_refused d text n items name update is same not = (
   an_update text n items update,
   update_names d text n items name update is same,
@@ -188,9 +188,9 @@ update_name_refused d text n items (name_errors.BadName at) update only =
 update_name_refused d text n items name_errors.Memory update only = tt
 
 pub update_changes_refused : (d : Data) (text : List ℕ) (n : Num) (items : Items) (name : List Label) (value : ℕ) (e : LineError) → IsUpdate d text n items → IsName name → text ≡ name_text name → IsWhole 1 n value
-    → Refuses whys.Change ((changes : List Change) → AreChanges items changes → ⊥) e → RefusesValue d e
+    → RefusesLinePart whys.Change ((changes : List Change) → AreLineChanges items changes → ⊥) e → RefusesValue d e
 update_changes_refused d text n items name value NotJson update is same whole h = absurd h
-update_changes_refused d text n items name value (BadLine why) update is same whole h = subst (λ (w : LineWhy). Lacks w d) (sym h.0) (
+update_changes_refused d text n items name value (BadLine why) update is same whole h = subst (λ (w : LineWhy). LineLacks w d) (sym h.0) (
   an_update text n items update,
   update_names d text n items name update is same,
   update_numbers d text n items value update whole,
@@ -225,7 +225,7 @@ said (Audit query) = codes "audit"
 said (Now at) = codes "now"
 said Settle = codes "settle"
 
-does_said : (d : Data) (line : Line) → Says d line → Does (said line) d
+does_said : (d : Data) (line : Line) → SaysLine d line → Does (said line) d
 unfolding said
 does_said d (Query query) h = h.0
 does_said d (Update name n changes) h = h.0
@@ -239,7 +239,7 @@ same_word d v w h k = cc (h, k)
 differ : (v w : List ℕ) → v ≡ w → bytes_eq v w ≡ false → ⊥
 differ v w same apart = let equal : bytes_eq v w ≡ true = subst (λ (x : List ℕ). bytes_eq v x ≡ true) same (nat_list_eq_equiv.refl v) in absurd (cc (equal, apart))
 
-says_once : (d : Data) (a b : Line) → Says d a → Says d b → a ≡ b
+says_once : (d : Data) (a b : Line) → SaysLine d a → SaysLine d b → a ≡ b
 unfolding said
 says_once d (Query query) (Query other) h k = let e : query ≡ other = cc (h.1, k.1) in ap (λ (x : List ℕ). Query x) e
 says_once d (Update name n changes) (Update called m others) h k =
@@ -266,7 +266,7 @@ line_refused bytes d ms (Err (BadLine why)) j o h = (object ms, subst (IsJson by
 line_refused bytes d ms (Err Memory) j o h = tt
 
 -- a line has all four
-lacks_none : (why : LineWhy) (d : Data) (line : Line) → Lacks why d → IsLine d line → ⊥
+lacks_none : (why : LineWhy) (d : Data) (line : Line) → LineLacks why d → IsLine d line → ⊥
 lacks_none whys.Shape d line h is = h is.shape
 lacks_none whys.Name d line h is = h.1 is.names
 lacks_none whys.Number d line h is = h.2 is.numbers
@@ -274,7 +274,7 @@ lacks_none whys.Change d line h is = h.3 is.changes
 
 -- what is found or refused leaves no other line
 pub line_only : (bytes : List ℕ) (r : Result Line LineError) → IfOk r (λ line. ReadsLine bytes line) → IfErr r (RefusesLine bytes) → (line : Line) → ReadsLine bytes line → GivesLine r line
-line_only bytes (Ok found) is refuses line reads = says_once is.0 found line is.2.says (subst (λ (v : Data). Says v line) (json_unique bytes reads.0 is.0 reads.1 is.1) reads.2.says)
+line_only bytes (Ok found) is refuses line reads = says_once is.0 found line is.2.says (subst (λ (v : Data). SaysLine v line) (json_unique bytes reads.0 is.0 reads.1 is.1) reads.2.says)
 line_only bytes (Err NotJson) is refuses line reads = refuses reads.0 reads.1
 line_only bytes (Err (BadLine why)) is refuses line reads = lacks_none why refuses.0 line refuses.2 (subst (λ (v : Data). IsLine v line) (json_unique bytes reads.0 refuses.0 reads.1 refuses.1) reads.2)
 line_only bytes (Err Memory) is refuses line reads = tt

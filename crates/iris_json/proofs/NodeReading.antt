@@ -21,7 +21,7 @@ use Rattle.iris_tree.specs.declared.tree.InsertError.{InsertError}
 use Rattle.iris_tree.specs.declared.tree.InsertError.TheVariants.{Twin, Memory}
 use Rattle.iris_json.specs.Errors.{insert_error}
 use Rattle.iris_json.proofs.LineReading.{object_of}
-use Rattle.iris_json.specs.CityLine.{Gives, OwnAt, NodesAt, AreSiblings, IsNode, is_node, AreNodes, none, more, put_in_order, in_order}
+use Rattle.iris_json.specs.CityLine.{GivesCityPart, OwnAt, NodesAt, AreSiblings, IsNode, is_node, AreNodes, none, more, put_in_order, in_order}
 
 -- ---- a node by its parts
 
@@ -290,6 +290,6 @@ not_some None u twin = refl
 not_some (Some n) u twin = let e = twin.1 refl in absurd (cc)
 
 -- where none has its label, only memory was missing
-pub insert_refused : (o : Option Node) (e : InsertError) (t : Node) → (IsErrOf {T = Unit {0}} (Err e) Twin ↔ IsSome o) → o ≡ None → Gives (Err (insert_error e)) t
+pub insert_refused : (o : Option Node) (e : InsertError) (t : Node) → (IsErrOf {T = Unit {0}} (Err e) Twin ↔ IsSome o) → o ≡ None → GivesCityPart (Err (insert_error e)) t
 insert_refused o Twin t twin missing = let has : IsSome o = twin.0 refl in absurd (cc)
 insert_refused o Memory t twin missing = tt

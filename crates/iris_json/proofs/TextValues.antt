@@ -170,7 +170,7 @@ mutual
       ∙ ap Some (joined-more found k d ms)
 
 -- the compact text of such a value is the JSON text of it
-pub text_is_json : (d : Data) → IsOfTexts d → depth d ≤ 127 → IsJson (compact_text d) d
+pub text_is_json : (d : Data) → IsOfTexts d → depth d ≤ max_depth → IsJson (compact_text d) d
 text_is_json d h shallow =
     let lexed : tokens (compact_text d) ≡ tree.json_tokens (outline d) =
     ap tokens (sym (print-outline d)) ∙ tokens-print (tree.json_tokens (outline d)) (ArePrintable-json_tokens (outline d) (numbers d h)) in

@@ -7,6 +7,7 @@ use Rattle.std.specs.Ordering.{nat_cmp}
 use Rattle.std.specs.Cmp.Lexicographic.{slice_cmp}
 use Rattle.std.specs.Str.{bytes_eq, IsUtf8}
 use Rattle.std.proofs.Props.{props}
+use Rattle.iris_base.specs.declared.limits.TheConstants.{MAX_KINDS, MAX_ATTRIBUTES, MAX_LOCAL_BYTES, MAX_CHILDREN}
 use Rattle.iris_base.specs.declared.name.Label.{Label}
 use Rattle.iris_base.specs.Forms.{IsKind, IsId, IsTag}
 use Rattle.iris_tree.specs.declared.local.Local.{Local}
@@ -14,10 +15,10 @@ use Rattle.iris_tree.specs.Attrs.{Pairs}
 use Rattle.iris_tree.specs.LocalText.{local_text}
 use Rattle.iris_tree.specs.Universe.{Node, node, Nodes, no_nodes, nodes, list_of}
 
--- 1 to 16 different kinds
+-- some different kinds, and no more than a city may have
 pub record AreKinds (kinds : List (List ℕ)) : Type 0 where
   pub some : 0 < length kinds
-  pub few : length kinds ≤ 16
+  pub few : length kinds ≤ MAX_KINDS
   pub each : AllByRecursion IsKind kinds
   pub differ : IsDistinct bytes_eq kinds
 
@@ -34,15 +35,15 @@ pub record AreTexts (pairs : Pairs) : Type 0 where
   pub rise : IsStrictlySortedBy (slice_cmp nat_cmp) (keys_of pairs)
   pub utf8 : AllByRecursion (λ p. IsUtf8 p.1) pairs
 
--- what a node of a city is called and holds itself: it is of one of the kinds, has at most 64 attributes and no plain elements, and its canonical text is short
+-- what a node of a city is called and holds itself: it is of one of the kinds, has no more attributes than it may have, and no plain elements, and its canonical text is short
 pub record IsCityOwn (kinds : List (List ℕ)) (label : Label) (local : Local) : Type 0 where
   pub kind : list_any (bytes_eq label.kind) kinds ≡ true
   pub id : IsId label.id
   pub attrs : AreAttrs local.attrs
   pub texts : AreTexts local.attrs
-  pub few : length local.attrs ≤ 64
+  pub few : length local.attrs ≤ MAX_ATTRIBUTES
   pub no_plain : length local.plain ≡ 0
-  pub short : length (local_text local) ≤ 1024
+  pub short : length (local_text local) ≤ MAX_LOCAL_BYTES
 
 -- what each node of a tree is called and holds itself is such
 abbrev mutual
@@ -60,11 +61,11 @@ HoldsTexts label local = AreTexts local.attrs
 abbrev pub EachHoldsTexts : Node → Type 0
 EachHoldsTexts = EachOwn HoldsTexts
 
--- a node of a city, with at most so many levels of nodes and at most 2,000 children each
+-- a node of a city, with at most so many levels of nodes and no more children than each may have
 abbrev mutual
   pub IsCityNode : List (List ℕ) → ℕ → Node → Type 0
   IsCityNode kinds zero n = ⊥
-  IsCityNode kinds (suc levels) (node label local below) = IsCityOwn kinds label local × (length (list_of below) ≤ 2000) × AreCityNodes kinds levels below
+  IsCityNode kinds (suc levels) (node label local below) = IsCityOwn kinds label local × (length (list_of below) ≤ MAX_CHILDREN) × AreCityNodes kinds levels below
 
   pub AreCityNodes : List (List ℕ) → ℕ → Nodes → Type 0
   AreCityNodes kinds levels no_nodes = ⊤

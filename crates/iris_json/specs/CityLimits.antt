@@ -19,12 +19,12 @@ abbrev mutual
 
 -- the greatest count of a node of the tree
 abbrev mutual
-  pub most_of : (Node → ℕ) → Node → ℕ
-  most_of count (node label local below) = max (count (node label local below)) (most_below count below)
+  pub greatest_count : (Node → ℕ) → Node → ℕ
+  greatest_count count (node label local below) = max (count (node label local below)) (greatest_below count below)
 
-  pub most_below : (Node → ℕ) → Nodes → ℕ
-  most_below count no_nodes = 0
-  most_below count (nodes n ns) = max (most_of count n) (most_below count ns)
+  pub greatest_below : (Node → ℕ) → Nodes → ℕ
+  greatest_below count no_nodes = 0
+  greatest_below count (nodes n ns) = max (greatest_count count n) (greatest_below count ns)
 
 -- ---- of one node
 
@@ -41,15 +41,15 @@ count_local n = length (local_text (local_of n))
 -- ---- of a whole tree
 
 -- a limit and the count, where it is passed, or else what comes later
-abbrev pub above : Which → ℕ → ℕ → Option (Which × ℕ) → Option (Which × ℕ)
-above which limit count later = if nat_lt limit count then Some (which, count) else later
+abbrev pub past_limit : Which → ℕ → ℕ → Option (Which × ℕ) → Option (Which × ℕ)
+past_limit which limit count later = if nat_lt limit count then Some (which, count) else later
 
 -- the first limit of a city's nodes that is passed, and the greatest count found, as a `u64` tells it
-abbrev pub passed : Node → Option (Which × ℕ)
-passed tree =
-    above nodes_limit MAX_NODES (saturated (size_of tree))
-    (above Depth MAX_LABELS (saturated (levels_of tree))
-    (above Children MAX_CHILDREN (saturated (most_of count_children tree))
-    (above Attributes MAX_ATTRIBUTES (saturated (most_of count_attributes tree))
-    (above local_limit MAX_LOCAL_BYTES (saturated (most_of count_local tree))
+abbrev pub passed_limit : Node → Option (Which × ℕ)
+passed_limit tree =
+    past_limit nodes_limit MAX_NODES (saturated (size_of tree))
+    (past_limit Depth MAX_LABELS (saturated (levels_of tree))
+    (past_limit Children MAX_CHILDREN (saturated (greatest_count count_children tree))
+    (past_limit Attributes MAX_ATTRIBUTES (saturated (greatest_count count_attributes tree))
+    (past_limit local_limit MAX_LOCAL_BYTES (saturated (greatest_count count_local tree))
     None))))

@@ -4,6 +4,7 @@ use Rattle.std.specs.List.{IsDistinct}
 use Rattle.serde_json.specs.Data.{Data, string, array, Items, no_items, item}
 use Rattle.serde_json.specs.Find.{get}
 use Rattle.serde_json.specs.View.{items_of}
+use Rattle.iris_base.specs.declared.limits.TheConstants.{MAX_CITY_BYTES}
 use Rattle.iris_base.specs.declared.name.Label.{Label}
 use Rattle.iris_base.specs.Forms.{IsId, IsAgentId}
 use Rattle.iris_base.specs.NameOrder.{label_eq}
@@ -22,19 +23,19 @@ use Rattle.iris_json.specs.declared.out.Which.{Which}
 use Rattle.iris_json.specs.declared.out.Which.TheVariants.{Line}
 use Rattle.iris_json.specs.Lines.{IsJson, has_only}
 use Rattle.iris_json.specs.CityForm.{AreKinds, AreAttrs}
-use Rattle.iris_json.specs.CityLimits.{passed}
+use Rattle.iris_json.specs.CityLimits.{passed_limit}
 
 -- a list of texts
-abbrev pub texts : List (List ℕ) → Data
-texts ts = array (items_of (map string ts))
+abbrev pub texts_data : List (List ℕ) → Data
+texts_data ts = array (items_of (map string ts))
 
 -- the kinds at the key `kinds`
 abbrev pub KindsAt : Data → List (List ℕ) → Type 0
-KindsAt d kinds = (get (codes "kinds") d ≡ Some (texts kinds)) × AreKinds kinds
+KindsAt d kinds = (get (codes "kinds") d ≡ Some (texts_data kinds)) × AreKinds kinds
 
 -- the one agent at the key `agents`
 abbrev pub AgentAt : Data → List ℕ → Type 0
-AgentAt d agent = (get (codes "agents") d ≡ Some (texts (agent ∷ []))) × IsAgentId agent
+AgentAt d agent = (get (codes "agents") d ≡ Some (texts_data (agent ∷ []))) × IsAgentId agent
 
 -- the attributes at the key `attrs`; absent means none
 abbrev pub AttrsAt : Data → Pairs → Type 0
@@ -85,7 +86,7 @@ TreeAt kinds d tree = (value : Data) × (get (codes "tree") d ≡ Some value) ×
 
 -- the one pair of the top node's name and the agent at the key `place`
 abbrev pub PlaceAt : Data → Label → List ℕ → Type 0
-PlaceAt d top agent = get (codes "place") d ≡ Some (array (item (texts (name_text (top ∷ []) ∷ agent ∷ [])) no_items))
+PlaceAt d top agent = get (codes "place") d ≡ Some (array (item (texts_data (name_text (top ∷ []) ∷ agent ∷ [])) no_items))
 
 -- a value is of the form of the line of a city of one agent, which is placed at the top node
 pub record IsCity (d : Data) (kinds : List (List ℕ)) (agent : List ℕ) (tree : Node) : Type 0 where
@@ -99,21 +100,21 @@ pub record IsCity (d : Data) (kinds : List (List ℕ)) (agent : List ℕ) (tree 
 abbrev pub SpellsCity : List ℕ → List (List ℕ) → List ℕ → Node → Type 0
 SpellsCity bytes kinds agent tree = (d : Data) × IsJson bytes d × IsCity d kinds agent tree
 
--- a city line has at most 4,194,304 bytes
-abbrev pub IsShort : List ℕ → Type 0
-IsShort bytes = length bytes ≤ 4194304
+-- a line is no longer than a city line may be
+abbrev pub IsShortCityLine : List ℕ → Type 0
+IsShortCityLine bytes = length bytes ≤ MAX_CITY_BYTES
 
 -- the bytes are a spelling of the city line, and no limit is passed
 abbrev pub ReadsCity : List ℕ → List (List ℕ) → List ℕ → Node → Type 0
-ReadsCity bytes kinds agent tree = IsShort bytes × SpellsCity bytes kinds agent tree × (passed tree ≡ None)
+ReadsCity bytes kinds agent tree = IsShortCityLine bytes × SpellsCity bytes kinds agent tree × (passed_limit tree ≡ None)
 
 -- ---- what a reader answers
 
 -- a reader gives that value, unless there was no memory
-abbrev pub Gives : {X : Type 0} → Result X FormError → X → Type 0
-Gives (Ok found) x = found ≡ x
-Gives (Err Shape) x = ⊥
-Gives (Err forms.Memory) x = Unit {0}
+abbrev pub GivesCityPart : {X : Type 0} → Result X FormError → X → Type 0
+GivesCityPart (Ok found) x = found ≡ x
+GivesCityPart (Err Shape) x = ⊥
+GivesCityPart (Err forms.Memory) x = Unit {0}
 
 -- the agent holds the whole city
 abbrev pub IsHeldBy : City → List ℕ → Type 0
@@ -128,20 +129,20 @@ GivesCity (Err (CityLimit which count)) kinds agent tree = ⊥
 GivesCity (Err Memory) kinds agent tree = Unit {0}
 
 -- the line is too long, and that is its length
-abbrev pub IsTooLong : List ℕ → Which → ℕ → Type 0
-IsTooLong bytes which count = (4194304 < length bytes) × (which ≡ Line) × (count ≡ length bytes)
+abbrev pub IsTooLongCityLine : List ℕ → Which → ℕ → Type 0
+IsTooLongCityLine bytes which count = (MAX_CITY_BYTES < length bytes) × (which ≡ Line) × (count ≡ length bytes)
 
 -- a value is of no city
-abbrev pub IsNoCity : Data → Type 0
-IsNoCity d = (kinds : List (List ℕ)) (agent : List ℕ) (tree : Node) → IsCity d kinds agent tree → ⊥
+abbrev pub IsNoCityData : Data → Type 0
+IsNoCityData d = (kinds : List (List ℕ)) (agent : List ℕ) (tree : Node) → IsCity d kinds agent tree → ⊥
 
 -- the bytes are of the form of a city line, and that limit of its nodes is the first that is passed
-abbrev pub Passes : List ℕ → Which → ℕ → Type 0
-Passes bytes which count = (kinds : List (List ℕ)) × (agent : List ℕ) × (tree : Node) × SpellsCity bytes kinds agent tree × (passed tree ≡ Some (which, count))
+abbrev pub PassesCityLimit : List ℕ → Which → ℕ → Type 0
+PassesCityLimit bytes which count = (kinds : List (List ℕ)) × (agent : List ℕ) × (tree : Node) × SpellsCity bytes kinds agent tree × (passed_limit tree ≡ Some (which, count))
 
 -- the error is of its cause: the line is too long; or else it is no JSON, or its value of no city, or a limit of its nodes is passed; or there was no memory
 abbrev pub RefusesCity : List ℕ → CityError → Type 0
-RefusesCity bytes NotJson = IsShort bytes × ((d : Data) → IsJson bytes d → ⊥)
-RefusesCity bytes (BadCity why) = IsShort bytes × ((d : Data) × IsJson bytes d × IsNoCity d)
-RefusesCity bytes (CityLimit which count) = IsTooLong bytes which count ⊎ (IsShort bytes × Passes bytes which count)
-RefusesCity bytes Memory = IsShort bytes
+RefusesCity bytes NotJson = IsShortCityLine bytes × ((d : Data) → IsJson bytes d → ⊥)
+RefusesCity bytes (BadCity why) = IsShortCityLine bytes × ((d : Data) × IsJson bytes d × IsNoCityData d)
+RefusesCity bytes (CityLimit which count) = IsTooLongCityLine bytes which count ⊎ (IsShortCityLine bytes × PassesCityLimit bytes which count)
+RefusesCity bytes Memory = IsShortCityLine bytes

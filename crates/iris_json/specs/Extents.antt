@@ -10,21 +10,21 @@ use Rattle.iris_json.specs.declared.city_line.Parts.{Parts}
 use Rattle.iris_json.specs.declared.extent.Extent.{Extent}
 use Rattle.iris_json.specs.declared.out.Which.{Which}
 use Rattle.iris_json.specs.declared.out.Which.TheVariants.{Nodes, Depth, Children, Attributes, Local}
-use Rattle.iris_json.specs.CityLimits.{levels_of, most_of, count_children, count_attributes, count_local, above}
+use Rattle.iris_json.specs.CityLimits.{levels_of, greatest_count, count_children, count_attributes, count_local, past_limit}
 
 -- how large a tree is
 abbrev pub extent_of : Node → Extent
 extent_of tree = record {
   nodes = saturated (size_of tree);
   labels = saturated (levels_of tree);
-  children = saturated (most_of count_children tree);
-  attributes = saturated (most_of count_attributes tree);
-  local = saturated (most_of count_local tree);
+  children = saturated (greatest_count count_children tree);
+  attributes = saturated (greatest_count count_attributes tree);
+  local = saturated (greatest_count count_local tree);
 }
 
 -- how large a tree is with one child more
-abbrev pub with_child : Extent → Extent → Extent
-with_child tree child = record {
+abbrev pub extent_with_child : Extent → Extent → Extent
+extent_with_child tree child = record {
   nodes = saturated (tree.nodes + child.nodes);
   labels = max tree.labels (saturated (child.labels + 1));
   children = max tree.children child.children;
@@ -33,9 +33,9 @@ with_child tree child = record {
 }
 
 -- the first limit that is passed, and the count
-abbrev pub passed_by : Extent → Option (Which × ℕ)
-passed_by tree =
-    above Nodes MAX_NODES tree.nodes (above Depth MAX_LABELS tree.labels (above Children MAX_CHILDREN tree.children (above Attributes MAX_ATTRIBUTES tree.attributes (above Local MAX_LOCAL_BYTES tree.local None))))
+abbrev pub passed_by_extent : Extent → Option (Which × ℕ)
+passed_by_extent tree =
+    past_limit Nodes MAX_NODES tree.nodes (past_limit Depth MAX_LABELS tree.labels (past_limit Children MAX_CHILDREN tree.children (past_limit Attributes MAX_ATTRIBUTES tree.attributes (past_limit Local MAX_LOCAL_BYTES tree.local None))))
 
 -- a reader gives these parts, unless there was no memory
 abbrev pub GivesParts : Result Parts FormError → List (List ℕ) → List ℕ → Node → Type 0

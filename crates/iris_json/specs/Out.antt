@@ -10,7 +10,7 @@ use Rattle.iris_json.specs.declared.out.Out.{Out}
 use Rattle.iris_json.specs.declared.out.Out.TheVariants.{Query, Update, Answer, Audit, Accepted, Settled, BackInTime, NoSuchNode, Old, BadChange, Ended, Limit}
 use Rattle.iris_json.specs.declared.out.TheConstants.{BAD_SCRIPT, PAST_LIMIT}
 use Rattle.iris_json.specs.Render.{items_data}
-use Rattle.iris_json.specs.Rows.{count, cites_data, row_data}
+use Rattle.iris_json.specs.Rows.{number_data, cites_data, row_data}
 
 -- the word for what is wrong with a script
 abbrev pub why_word : Why → List ℕ
@@ -36,28 +36,28 @@ which_word Local = codes "local"
 -- a post: what is posted, its number, the request's, and the agent that it goes to
 abbrev pub post_row : List ℕ → ℕ → ℕ → List ℕ → List (List ℕ × Data)
 post_row kind post request to =
-    (codes "kind", string kind) ∷ (codes "post", count post) ∷ (codes "request", count request) ∷ (codes "to", string to) ∷ []
+    (codes "kind", string kind) ∷ (codes "post", number_data post) ∷ (codes "request", number_data request) ∷ (codes "to", string to) ∷ []
 
 -- a request that was refused, with the one number that tells more
 abbrev pub refused_row : List ℕ → ℕ → List ℕ → ℕ → List (List ℕ × Data)
 refused_row key told why request =
-    (key, count told) ∷ (codes "refused", string why) ∷ (codes "request", count request) ∷ []
+    (key, number_data told) ∷ (codes "refused", string why) ∷ (codes "request", number_data request) ∷ []
 
 -- a line: its keys, in the order of their bytes, and what it has at each
 abbrev pub out_row : Out → List (List ℕ × Data)
 out_row (Query post request to) = post_row (codes "query") post request to
 out_row (Update post request to) = post_row (codes "update") post request to
 out_row (Answer answer cites newest request) =
-    (codes "answer", items_data answer) ∷ (codes "cites", cites_data cites) ∷ (codes "newest", boolean newest) ∷ (codes "request", count request) ∷ []
-out_row (Audit audit request) = (codes "audit", items_data audit) ∷ (codes "request", count request) ∷ []
-out_row (Accepted accepted request) = (codes "accepted", count accepted) ∷ (codes "request", count request) ∷ []
-out_row (BackInTime now) = (codes "now", count now) ∷ (codes "refused", string (codes "back in time")) ∷ []
-out_row (NoSuchNode request) = (codes "refused", string (codes "no such node")) ∷ (codes "request", count request) ∷ []
+    (codes "answer", items_data answer) ∷ (codes "cites", cites_data cites) ∷ (codes "newest", boolean newest) ∷ (codes "request", number_data request) ∷ []
+out_row (Audit audit request) = (codes "audit", items_data audit) ∷ (codes "request", number_data request) ∷ []
+out_row (Accepted accepted request) = (codes "accepted", number_data accepted) ∷ (codes "request", number_data request) ∷ []
+out_row (BackInTime now) = (codes "now", number_data now) ∷ (codes "refused", string (codes "back in time")) ∷ []
+out_row (NoSuchNode request) = (codes "refused", string (codes "no such node")) ∷ (codes "request", number_data request) ∷ []
 out_row (Old last request) = refused_row (codes "last") last (codes "old") request
 out_row (BadChange at request) = refused_row (codes "at") at (codes "bad change") request
-out_row (Settled settled) = (codes "settled", count settled) ∷ []
-out_row (Ended line why) = (codes "ended", count BAD_SCRIPT) ∷ (codes "line", count line) ∷ (codes "why", string (why_word why)) ∷ []
-out_row (Limit limit which) = (codes "count", count limit) ∷ (codes "ended", count PAST_LIMIT) ∷ (codes "which", string (which_word which)) ∷ []
+out_row (Settled settled) = (codes "settled", number_data settled) ∷ []
+out_row (Ended line why) = (codes "ended", number_data BAD_SCRIPT) ∷ (codes "line", number_data line) ∷ (codes "why", string (why_word why)) ∷ []
+out_row (Limit limit which) = (codes "count", number_data limit) ∷ (codes "ended", number_data PAST_LIMIT) ∷ (codes "which", string (which_word which)) ∷ []
 
 -- a line as a value
 abbrev pub out_data : Out → Data

@@ -10,12 +10,12 @@ use Rattle.iris_json.specs.declared.row.Field.TheVariants.{Number, Text, Boolean
 use Rattle.iris_json.specs.Render.{items_data}
 
 -- a whole number
-abbrev pub count : ℕ → Data
-count n = number (unsigned n)
+abbrev pub number_data : ℕ → Data
+number_data n = number (unsigned n)
 
 -- a cite is the list of a name, a version and a moment
 abbrev pub cite_data : Cite → Data
-cite_data c = array (items_of (string (name_text c.name) ∷ count c.version ∷ count c.stamp ∷ []))
+cite_data c = array (items_of (string (name_text c.name) ∷ number_data c.version ∷ number_data c.stamp ∷ []))
 
 -- cites, in their order
 abbrev pub cites_data : List Cite → Data
@@ -32,7 +32,7 @@ row_data row = object (members_of row)
 
 -- what is written for a field
 abbrev pub field_data : Field → Data
-field_data (Number n) = count n
+field_data (Number n) = number_data n
 field_data (Text text) = string text.now
 field_data (Boolean b) = boolean b
 field_data (Items items) = items_data items.now

@@ -6,7 +6,7 @@ ghost use Rattle.iris_base.specs.Forms.{IsTag};
 ghost use Rattle.iris_tree.specs.declared.change.Change.{Change};
 ghost use Rattle.iris_tree.specs.Changes.{change_data};
 ghost use Rattle.iris_json.specs.declared.line.LineWhy.{LineWhy};
-ghost use Rattle.iris_json.specs.Lines.{two, three, IsChange, AreChanges, Refuses};
+ghost use Rattle.iris_json.specs.Lines.{pair_data, triple_data, IsLineChange, AreLineChanges, RefusesLinePart};
 
 use crate::line::{LineError, LineWhy};
 use iris_tree::{Change, MAX_CHANGES, Sequence, Tag, Text};
@@ -20,7 +20,7 @@ const CHANGE: LineError = LineError::BadLine {
 // The name of an attribute that a value is.
 fn read_tag(value: &Value) -> Result<Tag, LineError>
     ensures found { IfOk result (λ tag. (view value.now ≡ string tag) × IsTag tag) }
-    ensures refused { IfErr result (Refuses LineWhy.Change ((tag : List ℕ) → view value.now ≡ string tag → IsTag tag → ⊥)) }
+    ensures refused { IfErr result (RefusesLinePart LineWhy.Change ((tag : List ℕ) → view value.now ≡ string tag → IsTag tag → ⊥)) }
 {
     let Some(text) = value.as_str() else {
         return Err(CHANGE);
@@ -34,7 +34,7 @@ fn read_tag(value: &Value) -> Result<Tag, LineError>
 // The text that a value is.
 fn read_text(alloc: Global, value: &Value) -> Result<Text, LineError>
     ensures found { IfOk result (λ text. view value.now ≡ string text) }
-    ensures refused { IfErr result (Refuses LineWhy.Change ((text : List ℕ) → view value.now ≡ string text → ⊥)) }
+    ensures refused { IfErr result (RefusesLinePart LineWhy.Change ((text : List ℕ) → view value.now ≡ string text → ⊥)) }
 {
     let Some(text) = value.as_str() else {
         return Err(CHANGE);
@@ -44,8 +44,8 @@ fn read_text(alloc: Global, value: &Value) -> Result<Text, LineError>
 
 // The change that these are: the word `attr`, a name, and the value that it gets.
 fn attr_of(alloc: Global, word: &Value, name: &Value, text: &Value) -> Result<Change, LineError>
-    ensures found { IfOk result (λ change. (three (view word.now) (view name.now) (view text.now) ≡ change_data change) × IsChange change) }
-    ensures refused { IfErr result (Refuses LineWhy.Change ((change : Change) → three (view word.now) (view name.now) (view text.now) ≡ change_data change → IsChange change → ⊥)) }
+    ensures found { IfOk result (λ change. (triple_data (view word.now) (view name.now) (view text.now) ≡ change_data change) × IsLineChange change) }
+    ensures refused { IfErr result (RefusesLinePart LineWhy.Change ((change : Change) → triple_data (view word.now) (view name.now) (view text.now) ≡ change_data change → IsLineChange change → ⊥)) }
 {
     if word.as_str() != Some("attr") {
         return Err(CHANGE);
@@ -57,8 +57,8 @@ fn attr_of(alloc: Global, word: &Value, name: &Value, text: &Value) -> Result<Ch
 
 // The change that these are: the word `drop` and a name.
 fn drop_of(word: &Value, name: &Value) -> Result<Change, LineError>
-    ensures found { IfOk result (λ change. (two (view word.now) (view name.now) ≡ change_data change) × IsChange change) }
-    ensures refused { IfErr result (Refuses LineWhy.Change ((change : Change) → two (view word.now) (view name.now) ≡ change_data change → IsChange change → ⊥)) }
+    ensures found { IfOk result (λ change. (pair_data (view word.now) (view name.now) ≡ change_data change) × IsLineChange change) }
+    ensures refused { IfErr result (RefusesLinePart LineWhy.Change ((change : Change) → pair_data (view word.now) (view name.now) ≡ change_data change → IsLineChange change → ⊥)) }
 {
     if word.as_str() != Some("drop") {
         return Err(CHANGE);
@@ -69,8 +69,8 @@ fn drop_of(word: &Value, name: &Value) -> Result<Change, LineError>
 
 // The change that a value is.
 fn read_change(alloc: Global, value: &Value) -> Result<Change, LineError>
-    ensures found { IfOk result (λ change. (view value.now ≡ change_data change) × IsChange change) }
-    ensures refused { IfErr result (Refuses LineWhy.Change ((change : Change) → view value.now ≡ change_data change → IsChange change → ⊥)) }
+    ensures found { IfOk result (λ change. (view value.now ≡ change_data change) × IsLineChange change) }
+    ensures refused { IfErr result (RefusesLinePart LineWhy.Change ((change : Change) → view value.now ≡ change_data change → IsLineChange change → ⊥)) }
 {
     let Some(parts) = value.as_array() else {
         return Err(CHANGE);
@@ -82,10 +82,10 @@ fn read_change(alloc: Global, value: &Value) -> Result<Change, LineError>
     }
 }
 
-/// The 1 to 64 changes that values are, in their order.
+/// The 1 to `MAX_CHANGES` changes that values are, in their order.
 pub fn read_changes(alloc: Global, items: &[Value]) -> Result<Sequence<Change>, LineError>
-    ensures found { IfOk result (λ changes. AreChanges (items_view items.now) changes) }
-    ensures refused { IfErr result (Refuses LineWhy.Change ((changes : List Change) → AreChanges (items_view items.now) changes → ⊥)) }
+    ensures found { IfOk result (λ changes. AreLineChanges (items_view items.now) changes) }
+    ensures refused { IfErr result (RefusesLinePart LineWhy.Change ((changes : List Change) → AreLineChanges (items_view items.now) changes → ⊥)) }
 {
     if items.is_empty() || items.len() > MAX_CHANGES {
         return Err(CHANGE);

@@ -3,11 +3,12 @@ ghost use Rattle.std.specs.Prelude.{◌≡◌, ◌↔◌, ◌<◌, ◌≤◌, �
 ghost use Rattle.serde_json.specs.Data.{string, array, object, item, no_items};
 ghost use Rattle.serde_json.specs.Find.{get_member};
 ghost use Rattle.serde_json.specs.View.{view, members_view};
+ghost use Rattle.iris_base.specs.declared.limits.TheConstants.{MAX_LABELS, MAX_NODES};
 ghost use Rattle.iris_base.specs.Forms.{IsKind, IsAgentId};
 ghost use Rattle.iris_tree.specs.NodeCode.{size_of};
 ghost use Rattle.iris_tree.specs.Universe.{Node, label_of};
 ghost use Rattle.iris_json.specs.CityForm.{AreKinds, EachHoldsTexts, IsCityNode};
-ghost use Rattle.iris_json.specs.CityLine.{texts, KindsAt, AgentAt, TreeAt, PlaceAt, IsCity, ReadsCity, IsHeldBy, Gives, GivesCity, RefusesCity};
+ghost use Rattle.iris_json.specs.CityLine.{texts_data, KindsAt, AgentAt, TreeAt, PlaceAt, IsCity, ReadsCity, IsHeldBy, GivesCityPart, GivesCity, RefusesCity};
 ghost use Rattle.iris_json.specs.Extents.{GivesParts};
 
 use crate::city::{City, CityError, FormError};
@@ -15,19 +16,14 @@ use crate::extent::Extent;
 use crate::keys::{Members, has_only, list_at, read_value, sole_at, value_at};
 use crate::node::read_node;
 use crate::out::Which;
-use iris_tree::{AgentId, Kind, Label, Mem, Name, Sequence, Tree, name_text};
+use iris_tree::{AgentId, Kind, Label, MAX_CITY_BYTES, MAX_KINDS, Mem, Name, Sequence, Tree, name_text};
 use serde_json::Value;
 use std::alloc::Global;
-
-/// The greatest length of a city line, without its LF.
-const MOST_BYTES: usize = 4_194_304;
-
-const MOST_KINDS: usize = 16;
 
 // The kind that a value is.
 fn read_kind(value: &Value) -> Result<Kind, FormError>
     ensures found { IfOk result (λ kind. (view value.now ≡ string kind) × IsKind kind) }
-    ensures only { (kind : List ℕ) → view value.now ≡ string kind → IsKind kind → Gives result kind }
+    ensures only { (kind : List ℕ) → view value.now ≡ string kind → IsKind kind → GivesCityPart result kind }
 {
     let Some(text) = value.as_str() else {
         return Err(FormError::Shape);
@@ -41,12 +37,12 @@ fn read_kind(value: &Value) -> Result<Kind, FormError>
 // The list of different kinds at the key `kinds`.
 fn read_kinds(alloc: Global, members: &Members) -> Result<Sequence<Kind>, FormError>
     ensures found { IfOk result (λ kinds. KindsAt (object (members_view members.now.entries)) kinds) }
-    ensures only { (kinds : List (List ℕ)) → KindsAt (object (members_view members.now.entries)) kinds → Gives result kinds }
+    ensures only { (kinds : List (List ℕ)) → KindsAt (object (members_view members.now.entries)) kinds → GivesCityPart result kinds }
 {
     let Some(items) = list_at(members, "kinds") else {
         return Err(FormError::Shape);
     };
-    if items.is_empty() || items.len() > MOST_KINDS {
+    if items.is_empty() || items.len() > MAX_KINDS {
         return Err(FormError::Shape);
     }
     let mut kinds = Vec::new(alloc);
@@ -63,7 +59,7 @@ fn read_kinds(alloc: Global, members: &Members) -> Result<Sequence<Kind>, FormEr
 // The one agent at the key `agents`.
 fn read_agent(members: &Members) -> Result<AgentId, FormError>
     ensures found { IfOk result (λ agent. AgentAt (object (members_view members.now.entries)) agent) }
-    ensures only { (agent : List ℕ) → AgentAt (object (members_view members.now.entries)) agent → Gives result agent }
+    ensures only { (agent : List ℕ) → AgentAt (object (members_view members.now.entries)) agent → GivesCityPart result agent }
 {
     let Some(item) = sole_at(members, "agents") else {
         return Err(FormError::Shape);
@@ -89,7 +85,7 @@ fn is_text(value: &Value, text: &str) -> bool
 
 // Whether the key `place` has the one pair of these texts.
 fn places(members: &Members, name: &str, agent: &str) -> bool
-    ensures { IsTrue result ↔ (get_member (codes "place") (members_view members.now.entries) ≡ Some (array (item (texts (name.now ∷ agent.now ∷ [])) no_items))) }
+    ensures { IsTrue result ↔ (get_member (codes "place") (members_view members.now.entries) ≡ Some (array (item (texts_data (name.now ∷ agent.now ∷ [])) no_items))) }
 {
     let Some(item) = sole_at(members, "place") else {
         return false;
@@ -111,7 +107,7 @@ fn read_place(
     agent: AgentId,
 ) -> Result<Name, FormError>
     ensures found { IfOk result (λ name. (name ≡ top ∷ []) × PlaceAt (object (members_view members.now.entries)) top agent) }
-    ensures only { PlaceAt (object (members_view members.now.entries)) top agent → Gives result (top ∷ []) }
+    ensures only { PlaceAt (object (members_view members.now.entries)) top agent → GivesCityPart result (top ∷ []) }
 {
     let mut name = Name::document(alloc);
     name.push(top)?;
@@ -127,7 +123,7 @@ fn read_tree(alloc: Global, kinds: &[Kind], members: &Members) -> Result<Tree, F
     requires kinds { 0 < length kinds.now }
     ensures found { IfOk result (λ tree. TreeAt kinds.now (object (members_view members.now.entries)) tree) }
     ensures texts { IfOk result EachHoldsTexts }
-    ensures only { (tree : Node) → TreeAt kinds.now (object (members_view members.now.entries)) tree → Gives result tree }
+    ensures only { (tree : Node) → TreeAt kinds.now (object (members_view members.now.entries)) tree → GivesCityPart result tree }
 {
     let Some(value) = value_at(members, "tree") else {
         return Err(FormError::Shape);
@@ -185,8 +181,8 @@ fn city_of(alloc: Global, parts: Parts) -> Mem<City>
     requires kinds { AreKinds parts.kinds }
     requires agent { IsAgentId parts.agent }
     requires top { parts.top ≡ label_of parts.tree ∷ [] }
-    requires nodes { IsCityNode parts.kinds 16 parts.tree }
-    requires few_nodes { size_of parts.tree ≤ 20000 }
+    requires nodes { IsCityNode parts.kinds MAX_LABELS parts.tree }
+    requires few_nodes { size_of parts.tree ≤ MAX_NODES }
     ensures kinds { IfOk result (λ city. city.kinds ≡ parts.kinds) }
     ensures tree { IfOk result (λ city. city.tree ≡ parts.tree) }
     ensures held { IfOk result (λ city. IsHeldBy city parts.agent) }
@@ -203,17 +199,17 @@ fn city_of(alloc: Global, parts: Parts) -> Mem<City>
     })
 }
 
-/// Reads the city line, without its LF: 1 to 16 different kinds; one agent; the one pair of the top
+/// Reads the city line, without its LF: 1 to `MAX_KINDS` different kinds; one agent; the one pair of the top
 /// node's name and that agent as places; the nodes, no two siblings with one label, no attribute named
-/// `id`. A line has at most 4,194,304 bytes, a city 20,000 nodes and 16 labels in a name, a node 2,000
-/// children, 64 attributes and 1,024 bytes of canonical local information. The form of the whole line
-/// is looked at before the limits of its nodes.
+/// `id`. A line has at most `MAX_CITY_BYTES` bytes, a city `MAX_NODES` nodes and `MAX_LABELS` labels in
+/// a name, a node `MAX_CHILDREN` children, `MAX_ATTRIBUTES` attributes and `MAX_LOCAL_BYTES` bytes of
+/// canonical local information. The form of the whole line is looked at before the limits of its nodes.
 pub fn read_city(alloc: Global, bytes: &[u8]) -> Result<City, CityError>
     ensures found { IfOk result (λ city. (agent : List ℕ) × ReadsCity bytes.now city.kinds agent city.tree × IsHeldBy city agent) }
     ensures only { (kinds : List (List ℕ)) (agent : List ℕ) (tree : Node) → ReadsCity bytes.now kinds agent tree → GivesCity result kinds agent tree }
     ensures refused { IfErr result (RefusesCity bytes.now) }
 {
-    if bytes.len() > MOST_BYTES {
+    if bytes.len() > MAX_CITY_BYTES {
         return Err(CityError::CityLimit {
             which: Which::Line,
             count: bytes.len() as u64,

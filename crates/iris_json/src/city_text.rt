@@ -1,11 +1,12 @@
 //! The city line, written.
 ghost use Rattle.std.specs.Prelude.{◌≡◌, ◌≤◌, ◌++◌, ℕ, List, length, OnOk, IfOk};
 ghost use Rattle.serde_json.specs.Written.{compact_text};
+ghost use Rattle.iris_base.specs.declared.limits.TheConstants.{MAX_CITY_BYTES};
 ghost use Rattle.iris_tree.specs.LocalText.{value_tokens};
 ghost use Rattle.iris_tree.specs.Universe.{IsOrdered};
 ghost use Rattle.iris_json.specs.Render.{node_data};
-ghost use Rattle.iris_json.specs.CityLine.{texts, ReadsCity, IsHeldBy};
-ghost use Rattle.iris_json.specs.CityText.{bare, place_data, places_data, city_data};
+ghost use Rattle.iris_json.specs.CityLine.{texts_data, ReadsCity, IsHeldBy};
+ghost use Rattle.iris_json.specs.CityText.{without_plain, place_data, places_data, city_data};
 
 use crate::city::City;
 use crate::item::begin_node;
@@ -14,7 +15,7 @@ use std::alloc::Global;
 
 // Writes a list of short texts.
 fn put_texts<F: Spelled, const N: usize>(words: &[Short<F, N>], out: &mut JsonText) -> Mem<()>
-    ensures { OnOk result (out.new ≡ out.old ++ value_tokens (texts words.now)) }
+    ensures { OnOk result (out.new ≡ out.old ++ value_tokens (texts_data words.now)) }
 {
     out.begin_array()?;
     for word in words {
@@ -51,7 +52,7 @@ fn put_places(alloc: Global, places: &[(Name, AgentId)], out: &mut JsonText) -> 
 
 // Writes a node with all nodes below it: the keys `attrs`, `id`, `kind`, `nodes`.
 fn put_node(tree: &Tree, out: &mut JsonText) -> Mem<()>
-    ensures text { OnOk result (out.new ≡ out.old ++ value_tokens (bare (node_data tree.now))) }
+    ensures text { OnOk result (out.new ≡ out.old ++ value_tokens (without_plain (node_data tree.now))) }
     ensures ordered { OnOk result (IsOrdered tree.now) }
 {
     begin_node(tree, out)?;
@@ -86,7 +87,7 @@ fn put_city(alloc: Global, city: &City, out: &mut JsonText) -> Mem<()>
 /// key `plain`. Where it is no longer than a city line may be, `read_city` gives the city back.
 pub fn write_city(alloc: Global, city: &City) -> Mem<Vec<u8>>
     ensures text { IfOk result (λ line. line.items ≡ compact_text (city_data city.now)) }
-    ensures read_again { IfOk result (λ line. length line.items ≤ 4194304 → (agent : List ℕ) × ReadsCity line.items city.now.kinds agent city.now.tree × IsHeldBy city.now agent) }
+    ensures read_again { IfOk result (λ line. length line.items ≤ MAX_CITY_BYTES → (agent : List ℕ) × ReadsCity line.items city.now.kinds agent city.now.tree × IsHeldBy city.now agent) }
 {
     let mut out = JsonText::new(alloc);
     put_city(alloc, city, &mut out)?;

@@ -1,6 +1,6 @@
 //! How large a city is, beside its limits.
 ghost use Rattle.std.specs.Prelude.{◌≡◌};
-ghost use Rattle.iris_json.specs.Extents.{extent_of, with_child, passed_by};
+ghost use Rattle.iris_json.specs.Extents.{extent_of, extent_with_child, passed_by_extent};
 
 use crate::out::Which;
 use iris_tree::{MAX_ATTRIBUTES, MAX_CHILDREN, MAX_LABELS, MAX_LOCAL_BYTES, MAX_NODES, Tree};
@@ -40,7 +40,7 @@ impl Extent {
 
     // Counts one child more, with all below it.
     fn add(&mut self, child: Extent)
-        ensures { self.new ≡ with_child self.old child }
+        ensures { self.new ≡ extent_with_child self.old child }
     {
         self.nodes = self.nodes.saturating_add(child.nodes);
         self.labels = self.labels.max(child.labels.saturating_add(1));
@@ -51,7 +51,7 @@ impl Extent {
 
     /// The first limit of a city's nodes that is passed, in the order of the fields, and the count.
     pub fn passed(&self) -> Option<(Which, u64)>
-        ensures { result ≡ passed_by self.now }
+        ensures { result ≡ passed_by_extent self.now }
     {
         if self.nodes > MAX_NODES {
             Some((Which::Nodes, self.nodes))

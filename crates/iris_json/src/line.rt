@@ -4,7 +4,7 @@ ghost use Rattle.serde_json.specs.Data.{Num, Items, object, string};
 ghost use Rattle.serde_json.specs.Find.{get_member, as_number};
 ghost use Rattle.serde_json.specs.View.{number_view, items_view, members_view};
 ghost use Rattle.iris_json.specs.declared.line.LineWhy.{LineWhy};
-ghost use Rattle.iris_json.specs.Lines.{TextAt, has_only, IsUpdate, IsWhole, IsLine, ReadsLine, GivesLine, Refuses, RefusesValue, RefusesLine};
+ghost use Rattle.iris_json.specs.Lines.{TextAt, has_only, IsUpdate, IsWhole, IsLine, ReadsLine, GivesLine, RefusesLinePart, RefusesValue, RefusesLine};
 
 use crate::changes::read_changes;
 use crate::keys::{Members, ValueError, has_only, list_at, read_value, text_at, value_at};
@@ -22,11 +22,11 @@ pub enum Line {
     },
     /// An update of a node is posted.
     Update {
-        /// The node's name, of 1 to 16 labels.
+        /// The node's name, of 1 to `MAX_LABELS` labels.
         name: Name,
-        /// The update's number, 1 to 10^15.
+        /// The update's number, 1 to `MAX_NUMBER`.
         no: u64,
-        /// What is changed, 1 to 64 changes in their order. A name of an attribute may be `id`.
+        /// What is changed, 1 to `MAX_CHANGES` changes in their order. A name of an attribute may be `id`.
         changes: Sequence<Change>,
     },
     /// A query is answered from the document as it is.
@@ -35,7 +35,7 @@ pub enum Line {
     },
     /// The time is put forward.
     Now {
-        /// In milliseconds, at most 10^15.
+        /// In milliseconds, at most `MAX_NUMBER`.
         at: u64,
     },
     /// All that is posted is delivered.
@@ -49,13 +49,13 @@ pub enum LineWhy {
     /// JSON type.
     #[error("the line is no line of a script")]
     Shape,
-    /// The text of a name is not that of a name of 1 to 16 labels.
+    /// The text of a name is not that of a name of 1 to `MAX_LABELS` labels.
     #[error("a name in the line is not well formed")]
     Name,
     /// A number is not whole or out of its range.
     #[error("a number in the line is not whole or not in its range")]
     Number,
-    /// The list of changes has none or more than 64, or an item of it is no change: another list than
+    /// The list of changes has none or more than `MAX_CHANGES`, or an item of it is no change: another list than
     /// `["attr",name,value]` or `["drop",name]`, or the name is not of the form of a tag.
     #[error("the changes in the line are not well formed")]
     Change,
@@ -147,7 +147,7 @@ fn whole(number: &Number, least: u64) -> Option<u64>
 fn read_question(alloc: Global, members: &Members) -> Result<Text, LineError>
     ensures only { IfOk result (λ _. has_only (codes "do" ∷ codes "query" ∷ []) (object (members_view members.now.entries)) ≡ true) }
     ensures text { IfOk result (λ text. TextAt (codes "query") (object (members_view members.now.entries)) text) }
-    ensures refused { IfErr result (Refuses LineWhy.Shape ((text : List ℕ) → has_only (codes "do" ∷ codes "query" ∷ []) (object (members_view members.now.entries)) ≡ true → TextAt (codes "query") (object (members_view members.now.entries)) text → ⊥)) }
+    ensures refused { IfErr result (RefusesLinePart LineWhy.Shape ((text : List ℕ) → has_only (codes "do" ∷ codes "query" ∷ []) (object (members_view members.now.entries)) ≡ true → TextAt (codes "query") (object (members_view members.now.entries)) text → ⊥)) }
 {
     if !has_only(members, &["do", "query"]) {
         return Err(SHAPE);
@@ -262,9 +262,9 @@ fn line_of(alloc: Global, members: &Members) -> Result<Line, LineError>
 /// | `do` | Keys |
 /// |---|---|
 /// | `query` | `query`, a text |
-/// | `update` | `name`, the text of a node's name; `no`, 1 to 10^15; `change`, a list of 1 to 64 changes |
+/// | `update` | `name`, the text of a node's name; `no`, 1 to `MAX_NUMBER`; `change`, a list of 1 to `MAX_CHANGES` changes |
 /// | `audit` | `query`, a text |
-/// | `now` | `at`, 0 to 10^15 |
+/// | `now` | `at`, 0 to `MAX_NUMBER` |
 /// | `settle` | |
 ///
 /// A change is `["attr",name,value]` or `["drop",name]`. `NotJson` comes where the bytes are no JSON

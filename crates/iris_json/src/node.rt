@@ -8,7 +8,7 @@ ghost use Rattle.iris_tree.specs.Attrs.{Pairs};
 ghost use Rattle.iris_tree.specs.LocalText.{attrs_members};
 ghost use Rattle.iris_tree.specs.Universe.{Node};
 ghost use Rattle.iris_json.specs.CityForm.{IsAttrName, AreAttrs, AreTexts, EachHoldsTexts};
-ghost use Rattle.iris_json.specs.CityLine.{AttrsAt, LocalAt, NodesAt, LabelAt, OwnAt, IsNode, Gives};
+ghost use Rattle.iris_json.specs.CityLine.{AttrsAt, LocalAt, NodesAt, LabelAt, OwnAt, IsNode, GivesCityPart};
 
 use crate::city::FormError;
 use crate::keys::{Members, has_only, text_at, value_at};
@@ -40,7 +40,7 @@ fn kind_of(kinds: &[Kind], word: &str) -> Option<Kind>
 // The label at the keys `kind` and `id`.
 fn read_label(kinds: &[Kind], members: &Members) -> Result<Label, FormError>
     ensures found { IfOk result (λ label. LabelAt kinds.now (object (members_view members.now.entries)) label) }
-    ensures only { (label : Label) → LabelAt kinds.now (object (members_view members.now.entries)) label → Gives result label }
+    ensures only { (label : Label) → LabelAt kinds.now (object (members_view members.now.entries)) label → GivesCityPart result label }
 {
     let Some(word) = text_at(members, "kind") else {
         return Err(FormError::Shape);
@@ -61,7 +61,7 @@ fn read_label(kinds: &[Kind], members: &Members) -> Result<Label, FormError>
 fn read_attr(alloc: Global, name: &str, value: &Value) -> Result<(Tag, Text), FormError>
     ensures found { IfOk result (λ attr. (attr.0 ≡ name.now) × IsAttrName name.now × (view value.now ≡ string attr.1)) }
     ensures utf8 { IfOk result (λ attr. IsUtf8 attr.1) }
-    ensures only { (text : List ℕ) → IsAttrName name.now → view value.now ≡ string text → Gives result (name.now, text) }
+    ensures only { (text : List ℕ) → IsAttrName name.now → view value.now ≡ string text → GivesCityPart result (name.now, text) }
 {
     let Some(text) = value.as_str() else {
         return Err(FormError::Shape);
@@ -80,7 +80,7 @@ fn read_attr(alloc: Global, name: &str, value: &Value) -> Result<(Tag, Text), Fo
 fn read_members(alloc: Global, members: &Members) -> Result<Attrs, FormError>
     ensures found { IfOk result (λ attrs. (members_view members.now.entries ≡ attrs_members attrs) × AreAttrs attrs) }
     ensures texts { IfOk result AreTexts }
-    ensures only { (pairs : Pairs) → members_view members.now.entries ≡ attrs_members pairs → AreAttrs pairs → Gives result pairs }
+    ensures only { (pairs : Pairs) → members_view members.now.entries ≡ attrs_members pairs → AreAttrs pairs → GivesCityPart result pairs }
 {
     let mut attrs = Attrs::new(alloc);
     for (name, value) in members {
@@ -95,7 +95,7 @@ fn read_members(alloc: Global, members: &Members) -> Result<Attrs, FormError>
 fn read_attrs(alloc: Global, members: &Members) -> Result<Attrs, FormError>
     ensures found { IfOk result (λ attrs. AttrsAt (object (members_view members.now.entries)) attrs) }
     ensures texts { IfOk result AreTexts }
-    ensures only { (pairs : Pairs) → AttrsAt (object (members_view members.now.entries)) pairs → Gives result pairs }
+    ensures only { (pairs : Pairs) → AttrsAt (object (members_view members.now.entries)) pairs → GivesCityPart result pairs }
 {
     match value_at(members, "attrs") {
         None => Ok(Attrs::new(alloc)),
@@ -110,7 +110,7 @@ fn read_attrs(alloc: Global, members: &Members) -> Result<Attrs, FormError>
 fn read_local(alloc: Global, members: &Members) -> Result<Local, FormError>
     ensures found { IfOk result (λ local. LocalAt (object (members_view members.now.entries)) local) }
     ensures texts { IfOk result (λ local. AreTexts local.attrs) }
-    ensures only { (local : Local) → LocalAt (object (members_view members.now.entries)) local → Gives result local }
+    ensures only { (local : Local) → LocalAt (object (members_view members.now.entries)) local → GivesCityPart result local }
 {
     let attrs = read_attrs(alloc, members)?;
     Ok(Local {
@@ -123,7 +123,7 @@ fn read_local(alloc: Global, members: &Members) -> Result<Local, FormError>
 fn read_own(alloc: Global, kinds: &[Kind], members: &Members) -> Result<(Label, Local), FormError>
     ensures found { IfOk result (λ own. OwnAt kinds.now (object (members_view members.now.entries)) own.0 own.1) }
     ensures texts { IfOk result (λ own. AreTexts own.1.attrs) }
-    ensures only { (label : Label) (local : Local) → OwnAt kinds.now (object (members_view members.now.entries)) label local → Gives result (label, local) }
+    ensures only { (label : Label) (local : Local) → OwnAt kinds.now (object (members_view members.now.entries)) label local → GivesCityPart result (label, local) }
 {
     if !has_only(members, &["kind", "id", "attrs", "nodes"]) {
         return Err(FormError::Shape);
@@ -148,13 +148,13 @@ fn nodes_at<'a>(members: &'a Members) -> Result<&'a [Value], FormError>
     }
 }
 
-/// The node that a value is, with all nodes below it. A JSON text nests at most 127 deep, so no more than
-/// 64 levels of nodes are read.
+/// The node that a value is, with all nodes below it. As `serde_json` reads no text that
+/// nests deeper than 127, no more than 64 levels of nodes are read.
 pub fn read_node(alloc: Global, kinds: &[Kind], value: &Value) -> Result<Tree, FormError>
     requires kinds { 0 < length kinds.now }
     ensures found { IfOk result (λ tree. IsNode kinds.now (view value.now) tree) }
     ensures texts { IfOk result EachHoldsTexts }
-    ensures only { (tree : Node) → IsNode kinds.now (view value.now) tree → Gives result tree }
+    ensures only { (tree : Node) → IsNode kinds.now (view value.now) tree → GivesCityPart result tree }
 {
     let Some(members) = value.as_object() else {
         return Err(FormError::Shape);

@@ -48,21 +48,21 @@ impl Why {
 /// A limit of a script or of its city.
 #[derive(Clone, Copy, Debug, PartialEq, Eq)]
 pub enum Which {
-    /// The bytes of a line without its LF, 4,194,304 for the city line and 16,384 for another.
+    /// The bytes of a line without its LF, `MAX_CITY_BYTES` for the city line and `MAX_LINE_BYTES` for another.
     Line,
-    /// The bytes of the script, 268,435,456.
+    /// The bytes of the script, `MAX_SCRIPT_BYTES`.
     Script,
-    /// The lines of the script, 1,000,000.
+    /// The lines of the script, `MAX_LINES`.
     Lines,
-    /// The nodes of the city, 20,000.
+    /// The nodes of the city, `MAX_NODES`.
     Nodes,
-    /// The labels of a name, 16.
+    /// The labels of a name, `MAX_LABELS`.
     Depth,
-    /// The children of a node, 2,000.
+    /// The children of a node, `MAX_CHILDREN`.
     Children,
-    /// The attributes of a node, 64.
+    /// The attributes of a node, `MAX_ATTRIBUTES`.
     Attributes,
-    /// The bytes of a node's canonical local information, 1,024.
+    /// The bytes of a node's canonical local information, `MAX_LOCAL_BYTES`.
     Local,
 }
 

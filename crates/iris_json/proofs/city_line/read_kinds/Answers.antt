@@ -4,14 +4,14 @@ use Rattle.std.proofs.lemmas.Result.{err_from_is_err_and}
 use Rattle.iris_json.proofs.AttrReading.{same_error}
 use Rattle.iris_json.proofs.KindReading.{empty, not_empty, kinds_len, so_start, so_step, so_found, so_only, next_kind}
 use Rattle.iris_json.proofs.city_line.read_kinds.Goals as goal
-use Rattle.iris_json.proofs.city_line.read_kinds.Goals.{then-is_empty-via-then-is_empty, then-is_empty-via-else-is_empty+then-items-gt-MOST_KINDS}
+use Rattle.iris_json.proofs.city_line.read_kinds.Goals.{then-is_empty-via-then-is_empty, then-is_empty-via-else-is_empty+then-items-gt-MAX_KINDS}
 
 pub returns-then-is_empty-clause-only : goal.returns-then-is_empty-clause-only
 returns-then-is_empty-clause-only c kinds has =
     let len = kinds_len _ _ kinds c.in-Some.ensures has.0 in
     elim c.then-is_empty.branch [
       | then-is_empty-via-then-is_empty w ↦ omega (arith, len, has.1.some, empty _ _ c.is_empty.ensures w.if-is_empty.true)
-      | then-is_empty-via-else-is_empty+then-items-gt-MOST_KINDS w ↦ omega (arith, len, has.1.few, w.if-items-gt-MOST_KINDS.true)
+      | then-is_empty-via-else-is_empty+then-items-gt-MAX_KINDS w ↦ omega (arith, len, has.1.few, w.if-items-gt-MAX_KINDS.true)
     ]
 
 pub loop-item-init : goal.loop-item-init
@@ -37,7 +37,7 @@ loop-item-preserved c =
 
 pub returns-clause-found : goal.returns-clause-found
 returns-clause-found c =
-    rw c.from_vec.ensures (so_found _ _ _ _ c.in-Some.ensures c.loop-item.invariant c.loop-item-test.false (not_empty _ _ c.is_empty.ensures c.if-is_empty.false) (omega (arith, c.if-items-gt-MOST_KINDS.false)))
+    rw c.from_vec.ensures (so_found _ _ _ _ c.in-Some.ensures c.loop-item.invariant c.loop-item-test.false (not_empty _ _ c.is_empty.ensures c.if-is_empty.false) (omega (arith, c.if-items-gt-MAX_KINDS.false)))
 
 pub returns-clause-only : goal.returns-clause-only
 returns-clause-only c kinds has = c.from_vec.ensures ∙ so_only _ _ _ _ kinds c.in-Some.ensures c.loop-item.invariant c.loop-item-test.false has.0

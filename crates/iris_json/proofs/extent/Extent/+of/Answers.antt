@@ -1,5 +1,5 @@
 use Rattle.iris_tree.specs.NodeCode.{size_of-found}
-use Rattle.iris_json.proofs.Measures.{measured_more, measured_all}
+use Rattle.iris_json.proofs.Extents.{measured_more, measured_all}
 use Rattle.iris_json.proofs.extent.Extent.+of.Goals as goal
 
 pub of-requires : goal.of-requires

@@ -1,6 +1,6 @@
 use Rattle.std.proofs.Common.{◌≡◌, take}
 use Rattle.iris_tree.specs.NodeCode.{size_of}
-use Rattle.iris_json.proofs.Measures.{so_far}
+use Rattle.iris_json.proofs.Extents.{so_far}
 use Rattle.iris_json.proofs.extent.Extent.+of.Given as goal
 
 abbrev pub decreases-of : goal.decreases-of
