@@ -1,22 +1,22 @@
 -- What a reader of nodes gives are nodes of a city.
-use Rattle.std.proofs.Common.{◌≡◌, ℕ, zero, suc, ◌≤◌, Bool, true, false, if◌then◌else◌, List, [], ◌∷◌, length, None, bytes_eq, ap, sym, ◌∙◌, subst, arith}
-use Rattle.std.specs.List.{list_any}
-use Rattle.std.specs.Ordering.{is_lt}
+use Rattle.std.proofs.Common.{◌≡◌, ℕ, zero, suc, ◌≤◌, true, List, [], ◌∷◌, length, None, bytes_eq, ap, sym, ◌∙◌, subst, arith}
+use Rattle.std.specs.List.{AllByRecursion, list_any}
+use Rattle.std.proofs.lemmas.List.Elements.{All-from_recursion, recursion_from_All}
+use Rattle.std.proofs.lemmas.List.Sorted.{All-permutation}
 use Rattle.std.specs.Cmp.Lexicographic.{nat_list_eq_equiv}
 use Rattle.std.proofs.lemmas.Map.Views.{list_any-from_Contains}
 use Rattle.serde_json.specs.Data.{Data, Items}
 use Rattle.iris_base.specs.declared.limits.TheConstants.{MAX_LABELS, MAX_NODES, MAX_CHILDREN, MAX_ATTRIBUTES, MAX_LOCAL_BYTES}
 use Rattle.iris_base.specs.declared.name.Label.{Label}
 use Rattle.iris_base.specs.Forms.{IsId}
-use Rattle.iris_base.specs.NameOrder.{label_cmp}
 use Rattle.iris_tree.specs.declared.local.Local.{Local}
 use Rattle.iris_tree.specs.NodeCode.{size_of, nodes_of-list_of}
-use Rattle.iris_tree.specs.Universe.{Node, node, Nodes, no_nodes, nodes, nodes_of, label_of, local_of, children_of, insert_node, with_child}
+use Rattle.iris_tree.specs.Siblings.{IsLabelOrder}
+use Rattle.iris_tree.specs.Universe.{Node, node, Nodes, no_nodes, nodes, nodes_of, list_of, local_of, children_of}
 use Rattle.iris_json.specs.CityForm.{AreAttrs, AreTexts, EachOwn, EachOwns, HoldsTexts, EachHoldsTexts, IsCityNode, AreCityNodes}
 use Rattle.iris_json.specs.CityLimits.{levels_of, levels_below, greatest_count, greatest_below, count_children, count_attributes, count_local, passed_limit}
-use Rattle.iris_json.specs.CityLine.{OwnAt, IsNode, IsCity, is_node, AreNodes, none, more, put_in_order}
+use Rattle.iris_json.specs.CityLine.{OwnAt, IsNode, IsCity, is_node, AreNodes, none, more}
 use Rattle.iris_json.proofs.Extents.{within_none, none_within}
-use Rattle.iris_json.proofs.NodeReading.{children-with_child}
 
 -- ---- the form, beside the limits
 
@@ -29,17 +29,19 @@ HasForm kinds = EachOwn (HasOwnForm kinds)
 abbrev HaveForm : List (List ℕ) → Nodes → Type 0
 HaveForm kinds = EachOwns (HasOwnForm kinds)
 
-all-insert_node : (Such : Label → Local → Type 0) (n : Node) (ns : List Node) → EachOwn Such n → EachOwns Such (nodes_of ns) → EachOwns Such (nodes_of (insert_node n ns))
-all-insert_node Such n [] one all = (one, tt)
-all-insert_node Such n (m ∷ ns) one all =
-    elim (is_lt (label_cmp (label_of n) (label_of m))) as (λ (b : Bool). EachOwns Such (nodes_of (if b then n ∷ m ∷ ns else m ∷ insert_node n ns))) [
-      | true ↦ (one, all)
-      | false ↦ (all.0, all-insert_node Such n ns one all.1)
-    ]
+each_owns : (Such : Label → Local → Type 0) (ns : List Node) → EachOwns Such (nodes_of ns) → AllByRecursion (EachOwn Such) ns
+each_owns Such [] all = tt
+each_owns Such (n ∷ ns) all = (all.0, each_owns Such ns all.1)
 
-all-put : (kinds : List (List ℕ)) (ns placed : List Node) → HaveForm kinds (nodes_of ns) → HaveForm kinds (nodes_of placed) → HaveForm kinds (nodes_of (put_in_order ns placed))
-all-put kinds [] placed all before = before
-all-put kinds (n ∷ ns) placed all before = all-put kinds ns (insert_node n placed) all.1 (all-insert_node (HasOwnForm kinds) n placed all.0 before)
+from_each : (Such : Label → Local → Type 0) (ns : List Node) → AllByRecursion (EachOwn Such) ns → EachOwns Such (nodes_of ns)
+from_each Such [] all = tt
+from_each Such (n ∷ ns) all = (all.0, from_each Such ns all.1)
+
+-- what each of some nodes is, each is in another order
+each_in_order : (Such : Label → Local → Type 0) (given ordered : List Node) → IsLabelOrder given ordered → EachOwns Such (nodes_of given) → EachOwns Such (nodes_of ordered)
+each_in_order Such given ordered order all =
+    from_each Such ordered (recursion_from_All (EachOwn Such) ordered
+    (All-permutation (EachOwn Such) given ordered order.same (All-from_recursion (EachOwn Such) given (each_owns Such given all))))
 
 own_form : (kinds : List (List ℕ)) (d : Data) (label : Label) (local : Local) → OwnAt kinds d label local → HasOwnForm kinds label local
 own_form kinds d label local own = (list_any-from_Contains nat_list_eq_equiv label.kind kinds own.1.2, own.1.3, own.2.0.1, ap length own.2.1)
@@ -47,7 +49,8 @@ own_form kinds d label local own = (list_any-from_Contains nat_list_eq_equiv lab
 -- a value that is a node has the form of one
 mutual
   node_form : (kinds : List (List ℕ)) (d : Data) (n : Node) → IsNode kinds d n → HasForm kinds n
-  node_form kinds d n (is_node same label local items below own at are siblings) = (own_form kinds d label local own, all-put kinds below [] (nodes_form kinds items below are) tt)
+  node_form kinds d n (is_node same label local items given ordered own at are order) =
+      (own_form kinds d label local own, each_in_order (HasOwnForm kinds) given ordered order (nodes_form kinds items given are))
 
   nodes_form : (kinds : List (List ℕ)) (items : Items) (ns : List Node) → AreNodes kinds items ns → HaveForm kinds (nodes_of ns)
   nodes_form kinds items ns none = tt
@@ -55,21 +58,10 @@ mutual
 
 -- ---- the attributes, as the loop over the children reads them
 
-abbrev pub HaveTexts : Node → Type 0
-HaveTexts tree = EachOwns HoldsTexts (nodes_of (children_of tree))
-
-pub texts_start : (tree : Node) → children_of tree ≡ [] → HaveTexts tree
-texts_start tree alone = subst (λ (ns : List Node). EachOwns HoldsTexts (nodes_of ns)) (sym alone) tt
-
--- one child more
-pub texts_step : (tree new n : Node) → HaveTexts tree → EachHoldsTexts n → new ≡ with_child tree n → HaveTexts new
-texts_step tree new n all one made =
-    subst (λ (ns : List Node). EachOwns HoldsTexts (nodes_of ns)) (sym (ap children_of made ∙ children-with_child tree n)) (all-insert_node HoldsTexts n (children_of tree) one all)
-
 -- all children are read, and the node itself before them
-pub texts_found : (first tree : Node) (label : Label) (local : Local) → local_of tree ≡ local_of first → first ≡ node label local no_nodes → AreTexts local.attrs → HaveTexts tree → EachHoldsTexts tree
-texts_found first (node called held below) label local same made own all =
-    (subst (λ (k : Local). AreTexts k.attrs) (sym (same ∙ ap local_of made)) own, subst (EachOwns HoldsTexts) (nodes_of-list_of below) all)
+pub texts_found : (tree : Node) (label : Label) (local : Local) (given : List Node) → local_of tree ≡ local → AreTexts local.attrs → IsLabelOrder given (children_of tree) → EachOwns HoldsTexts (nodes_of given) → EachHoldsTexts tree
+texts_found (node called held below) label local given same own order all =
+    (subst (λ (k : Local). AreTexts k.attrs) (sym same) own, subst (EachOwns HoldsTexts) (nodes_of-list_of below) (each_in_order HoldsTexts given (list_of below) order all))
 
 -- ---- the form within the limits
 

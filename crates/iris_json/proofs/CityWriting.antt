@@ -28,62 +28,18 @@ use Rattle.iris_base.proofs.Words.{word_ascii}
 use Rattle.iris_tree.specs.declared.local.Local.{Local}
 use Rattle.iris_tree.specs.Attrs.{Pairs}
 use Rattle.iris_tree.specs.LocalText.{attrs_members}
-use Rattle.iris_tree.specs.Universe.{Node, node, Nodes, no_nodes, nodes, list_of, label_of, local_of, labels_of, insert_node, AllAfter, IsOrdered, AreOrdered}
+use Rattle.iris_tree.specs.NodeCode.{nodes_of-list_of}
+use Rattle.iris_tree.specs.Universe.{Node, node, Nodes, no_nodes, nodes, list_of, label_of, local_of, IsOrdered, AreOrdered}
+use Rattle.iris_tree.proofs.Siblings.{already_in_order}
 use Rattle.iris_json.specs.declared.city.City.{City}
 use Rattle.iris_json.specs.Lines.{IsJson}
 use Rattle.iris_json.specs.Render.{node_data, nodes_data}
 use Rattle.iris_json.specs.CityForm.{AreKinds, AreAttrs, IsCityOwn, IsCityNode, AreCityNodes}
-use Rattle.iris_json.specs.CityLine.{texts_data, OwnAt, IsNode, AreNodes, none, more, put_in_order, in_order, IsCity, ReadsCity, IsHeldBy}
+use Rattle.iris_json.specs.CityLine.{texts_data, OwnAt, IsNode, AreNodes, none, more, IsCity, ReadsCity, IsHeldBy}
 use Rattle.iris_json.specs.CityText.{without_plain, items_without_plain, places_data, city_data}
 use Rattle.iris_json.proofs.CityNodes.{city_passes_none}
 use Rattle.iris_json.proofs.NodeReading.{from_parts}
 use Rattle.iris_json.proofs.TextValues.{KeysAfter, IsOfTexts, AreOfTexts, HasTexts, text_is_json}
-
--- ---- siblings whose labels rise are in order
-
-abbrev AllBefore : List Node → Node → Type 0
-AllBefore [] n = ⊤
-AllBefore (m ∷ placed) n = (label_cmp (label_of m) (label_of n) ≡ Less) × AllBefore placed n
-
-abbrev Precede : List Node → Nodes → Type 0
-Precede placed no_nodes = ⊤
-Precede placed (nodes n ns) = AllBefore placed n × Precede placed ns
-
-precede_none : (ns : Nodes) → Precede [] ns
-precede_none no_nodes = tt
-precede_none (nodes n ns) = (tt, precede_none ns)
-
-all_before_push : (placed : List Node) (m n : Node) → AllBefore placed n → label_cmp (label_of m) (label_of n) ≡ Less → AllBefore (placed ++ m ∷ []) n
-all_before_push [] m n h less = (less, tt)
-all_before_push (p ∷ placed) m n h less = (h.0, all_before_push placed m n h.1 less)
-
-precede_push : (placed : List Node) (m : Node) (ns : Nodes) → Precede placed ns → AllAfter (label_of m) ns → Precede (placed ++ m ∷ []) ns
-precede_push placed m no_nodes h after = tt
-precede_push placed m (nodes n ns) h after = (all_before_push placed m n h.0 after.0, precede_push placed m ns h.1 after.1)
-
-insert_last : (placed : List Node) (n : Node) → AllBefore placed n → insert_node n placed ≡ placed ++ n ∷ []
-insert_last [] n h = refl
-insert_last (m ∷ placed) n h =
-    let above : label_cmp (label_of n) (label_of m) ≡ Greater = labels_total.antisymm (label_of n) (label_of m) ∙ ap ordering_reverse h.0 in
-    rw above (ap (λ (ms : List Node). m ∷ ms) (insert_last placed n h.1))
-
-put_ordered : (ns : Nodes) (placed : List Node) → AreOrdered ns → Precede placed ns → put_in_order (list_of ns) placed ≡ placed ++ list_of ns
-put_ordered no_nodes placed ordered before = sym (append-nil placed)
-put_ordered (nodes n ns) placed ordered before =
-    ap (put_in_order (list_of ns)) (insert_last placed n before.0)
-    ∙ put_ordered ns (placed ++ n ∷ []) ordered.2 (precede_push placed n ns before.1 ordered.1) ∙ append_assoc placed (n ∷ []) (list_of ns)
-
-in_order-ordered : (ns : Nodes) → AreOrdered ns → list_of ns ≡ in_order (list_of ns)
-in_order-ordered ns ordered = sym (put_ordered ns [] ordered (precede_none ns))
-
-differ_after : (x : Label) (ns : Nodes) → AllAfter x ns → AllByRecursion (λ y. label_eq x y ≡ false) (labels_of (list_of ns))
-differ_after x no_nodes h = tt
-differ_after x (nodes n ns) h = (labels_ties x (label_of n) ∙ ap is_eq h.0, differ_after x ns h.1)
-
-differ : (ns : Nodes) → AreOrdered ns → IsDistinct label_eq (labels_of (list_of ns))
-unfolding IsDistinct
-differ no_nodes h = tt
-differ (nodes n ns) h = (differ_after (label_of n) ns h.1, differ ns h.2)
 
 -- ---- a node that is written is read
 
@@ -103,7 +59,7 @@ mutual
   node_reads kinds zero n h ordered = absurd h
   node_reads kinds (suc levels) (node label local below) h ordered =
       from_parts kinds (without_plain (node_data (node label local below))) (node label local below) (items_without_plain (nodes_data below)) (list_of below)
-      (own_at kinds label local below h.0) (inl refl) (nodes_read kinds levels below h.2 ordered) (differ below ordered) (in_order-ordered below ordered)
+      (own_at kinds label local below h.0) (inl refl) (nodes_read kinds levels below h.2 ordered) (already_in_order (list_of below) (subst AreOrdered (sym (nodes_of-list_of below)) ordered))
 
   nodes_read : (kinds : List (List ℕ)) (levels : ℕ) (ns : Nodes) → AreCityNodes kinds levels ns → AreOrdered ns → AreNodes kinds (items_without_plain (nodes_data ns)) (list_of ns)
   nodes_read kinds levels no_nodes h ordered = none

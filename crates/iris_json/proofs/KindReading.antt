@@ -64,7 +64,8 @@ texts_len [] (k ∷ kinds) same = absurd (cc)
 texts_len (v ∷ vs) [] same = absurd (cc)
 texts_len (v ∷ vs) (k ∷ kinds) same = let rest : items_view vs ≡ items_of (map string kinds) = cc in ap suc (texts_len vs kinds rest)
 
-texts_same : (kinds others : List (List ℕ)) → items_of (map string kinds) ≡ items_of (map string others) → kinds ≡ others
+-- a list is of the same texts only
+pub texts_same : (kinds others : List (List ℕ)) → items_of (map string kinds) ≡ items_of (map string others) → kinds ≡ others
 texts_same [] [] same = refl
 texts_same [] (q ∷ others) same = absurd (cc)
 texts_same (k ∷ kinds) [] same = absurd (cc)

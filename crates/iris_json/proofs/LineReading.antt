@@ -253,6 +253,10 @@ says_once d (Now at) (Now other) h k = let e : at ≡ other = cc (h.1, k.1) in a
 says_once d Settle Settle h k = refl
 says_once d a b h k = absurd (differ (said a) (said b) (same_word d (said a) (said b) (does_said d a h) (does_said d b k)) refl)
 
+-- a text is one line at most
+pub line_once : (bytes : List ℕ) (one other : Line) → ReadsLine bytes one → ReadsLine bytes other → one ≡ other
+line_once bytes one other (d, j, is) (e, k, reads) = says_once d one other is.says (subst (λ (v : Data). SaysLine v other) (json_unique bytes e d k j) reads.says)
+
 -- ---- from the members to the bytes
 
 pub line_found : (bytes : List ℕ) (d : Data) (ms : Members) (r : Result Line LineError) → IsJson bytes d → Some ms ≡ as_object d → IfOk r (λ line. IsLine (object ms) line) → IfOk r (λ line. ReadsLine bytes line)
@@ -274,7 +278,7 @@ lacks_none whys.Change d line h is = h.3 is.changes
 
 -- what is found or refused leaves no other line
 pub line_only : (bytes : List ℕ) (r : Result Line LineError) → IfOk r (λ line. ReadsLine bytes line) → IfErr r (RefusesLine bytes) → (line : Line) → ReadsLine bytes line → GivesLine r line
-line_only bytes (Ok found) is refuses line reads = says_once is.0 found line is.2.says (subst (λ (v : Data). SaysLine v line) (json_unique bytes reads.0 is.0 reads.1 is.1) reads.2.says)
+line_only bytes (Ok found) is refuses line reads = line_once bytes found line is reads
 line_only bytes (Err NotJson) is refuses line reads = refuses reads.0 reads.1
 line_only bytes (Err (BadLine why)) is refuses line reads = lacks_none why refuses.0 line refuses.2 (subst (λ (v : Data). IsLine v line) (json_unique bytes reads.0 refuses.0 reads.1 refuses.1) reads.2)
 line_only bytes (Err Memory) is refuses line reads = tt

@@ -1,50 +1,42 @@
 -- From a JSON value to a node: its children are read one after another, and put in the order of labels.
-use Rattle.std.proofs.Common.{◌≡◌, ℕ, zero, suc, ◌+◌, ◌<◌, ◌≤◌, max, Bool, true, false, ◌||◌, inl, inr, Ordering, Less, Equal, Greater, nat_cmp, codes, List, [], ◌∷◌, ◌++◌, length, take, drop, get_or, Option, Some, None, IsSome, if◌then◌else◌, refl, ap, sym, ◌∙◌, subst, arith, append_assoc, append-nil, ◌↔◌, Ok, Err, IsErrOf}
-use Rattle.std.specs.List.{list_any, AllByRecursion, IsDistinct}
+use Rattle.std.proofs.Common.{◌≡◌, ℕ, zero, suc, ◌+◌, ◌<◌, ◌≤◌, max, inl, inr, Ordering, Less, Equal, Greater, nat_cmp, codes, List, [], ◌∷◌, ◌++◌, length, take, get_or, Option, Some, refl, ap, sym, ◌∙◌, subst, arith}
 use Rattle.std.specs.Cmp.Lexicographic.{slice_cmp}
-use Rattle.std.specs.Ordering.{is_lt, match_ordering}
+use Rattle.std.specs.Ordering.{match_ordering}
 use Rattle.std.proofs.lemmas.List.{take_more, take_all}
-use Rattle.std.proofs.lemmas.Bool.{or_from, or_parts}
-use Rattle.std.proofs.lemmas.Map.Keys.{IsDistinct-push}
-use Rattle.std.proofs.Math.Seq.{drop-cons}
-use Rattle.std.proofs.Math.ListN.{drop_of_length-le}
 use Rattle.serde_json.specs.declared.value.Value.{Value}
-use Rattle.serde_json.specs.Data.{Data, object, Members, no_members, member, Items, no_items, item, depth, items_depth, members_depth}
+use Rattle.serde_json.specs.Data.{Data, string, object, Members, no_members, member, Items, no_items, item, depth, items_depth, members_depth}
 use Rattle.serde_json.specs.Find.{as_object, get_member}
 use Rattle.serde_json.specs.View.{view, items_view}
 use Rattle.iris_base.specs.declared.name.Label.{Label}
-use Rattle.iris_base.specs.NameOrder.{label_eq, label_cmp, labels_equiv}
 use Rattle.iris_tree.specs.declared.local.Local.{Local}
+use Rattle.iris_tree.specs.Attrs.{Pairs}
+use Rattle.iris_tree.specs.LocalText.{attrs_members}
 use Rattle.iris_tree.specs.NodeCode.{nodes_of-list_of}
-use Rattle.iris_tree.specs.Universe.{Node, node, Nodes, no_nodes, nodes_of, list_of, label_of, local_of, children_of, labels_of, child_of, insert_node, with_child}
-use Rattle.iris_tree.specs.declared.tree.InsertError.{InsertError}
-use Rattle.iris_tree.specs.declared.tree.InsertError.TheVariants.{Twin, Memory}
-use Rattle.iris_json.specs.Errors.{insert_error}
+use Rattle.iris_tree.specs.Siblings.{HaveDistinctLabels, IsLabelOrder}
+use Rattle.iris_tree.specs.Universe.{Node, node, Nodes, nodes_of, list_of, label_of, local_of, children_of}
+use Rattle.iris_tree.proofs.Siblings.{list_of-nodes_of, label_order_once, label_order_distinct}
+use Rattle.iris_json.specs.CityForm.{EachHoldsTexts, EachOwns, HoldsTexts}
+use Rattle.iris_json.specs.CityLine.{LabelAt, AttrsAt, LocalAt, OwnAt, NodesAt, IsNode, is_node, AreNodes, none, more}
+use Rattle.iris_json.proofs.AttrReading.{attrs_same}
 use Rattle.iris_json.proofs.LineReading.{object_of}
-use Rattle.iris_json.specs.CityLine.{GivesCityPart, OwnAt, NodesAt, AreSiblings, IsNode, is_node, AreNodes, none, more, put_in_order, in_order}
 
 -- ---- a node by its parts
 
-pub list_of-nodes_of : (ns : List Node) → list_of (nodes_of ns) ≡ ns
-list_of-nodes_of [] = refl
-list_of-nodes_of (n ∷ ns) = ap (λ (ms : List Node). n ∷ ms) (list_of-nodes_of ns)
-
 -- what a value that is a node has
-abbrev pub Parts : List (List ℕ) → Data → Node → Type 0
-Parts kinds d n =
-    (items : Items) × (below : List Node) × OwnAt kinds d (label_of n) (local_of n) × NodesAt d items × AreNodes kinds items below × AreSiblings below × (children_of n ≡ in_order below)
+abbrev pub NodeParts : List (List ℕ) → Data → Node → Type 0
+NodeParts kinds d n =
+    (items : Items) × (given : List Node) × OwnAt kinds d (label_of n) (local_of n) × NodesAt d items × AreNodes kinds items given × IsLabelOrder given (children_of n)
 
-pub parts : (kinds : List (List ℕ)) (d : Data) (n : Node) → IsNode kinds d n → Parts kinds d n
-parts kinds d n (is_node same label local items below own at are siblings) = (items, below, own, at, are, siblings, list_of-nodes_of (in_order below))
+parts : (kinds : List (List ℕ)) (d : Data) (n : Node) → IsNode kinds d n → NodeParts kinds d n
+parts kinds d n (is_node same label local items given ordered own at are order) = (items, given, own, at, are, subst (IsLabelOrder given) (sym (list_of-nodes_of ordered)) order)
 
-pub from_parts : (kinds : List (List ℕ)) (d : Data) (n : Node) (items : Items) (below : List Node) → OwnAt kinds d (label_of n) (local_of n) → NodesAt d items → AreNodes kinds items below → AreSiblings below → children_of n ≡ in_order below
-    → IsNode kinds d n
-from_parts kinds d (node label local ns) items below own at are siblings same =
-    let nodes_are : nodes_of (in_order below) ≡ ns = ap nodes_of (sym same) ∙ nodes_of-list_of ns in
-    subst (λ (ms : Nodes). IsNode kinds d (node label local ms)) nodes_are (is_node d label local items below own at are siblings)
+-- a value that has the parts of a node is one
+pub from_parts : (kinds : List (List ℕ)) (d : Data) (n : Node) (items : Items) (given : List Node) → OwnAt kinds d (label_of n) (local_of n) → NodesAt d items → AreNodes kinds items given → IsLabelOrder given (children_of n) → IsNode kinds d n
+from_parts kinds d (node label local ns) items given own at are order =
+    subst (λ (ms : Nodes). IsNode kinds d (node label local ms)) (nodes_of-list_of ns) (is_node d label local items given (list_of ns) own at are order)
 
 -- nodes with the same parts are the same
-pub same_node : (s t : Node) → label_of s ≡ label_of t → local_of s ≡ local_of t → children_of s ≡ children_of t → s ≡ t
+same_node : (s t : Node) → label_of s ≡ label_of t → local_of s ≡ local_of t → children_of s ≡ children_of t → s ≡ t
 same_node (node a l ms) (node b k ns) labels locals children =
     let below : ms ≡ ns = sym (nodes_of-list_of ms) ∙ ap nodes_of children ∙ nodes_of-list_of ns in
     rw (labels, locals, below) refl
@@ -69,152 +61,86 @@ nodes_more kinds (x ∷ xs) v ns n are one =
     subst (λ (ms : List Node). AreNodes kinds (items_view ((x ∷ xs) ++ v ∷ [])) (ms ++ n ∷ [])) (sym s.2)
     (more (view x) s.0 (items_view (xs ++ v ∷ [])) (s.1 ++ n ∷ []) s.3 (nodes_more kinds xs v s.1 n s.4 one))
 
--- ---- siblings with one label
+-- the value at a place of a list of nodes is a node
+pub node_there : (kinds : List (List ℕ)) (vs : List Value) (ns : List Node) (i : ℕ) (v : Value) → AreNodes kinds (items_view vs) ns → i < length vs → v ≡ get_or vs i v → (n : Node) × IsNode kinds (view v) n
+node_there kinds [] ns i v are within is = absurd (omega (arith, within))
+node_there kinds (x ∷ vs) ns zero v are within is =
+    let s = split kinds (items_view (x ∷ vs)) ns are in
+    (s.0, subst (λ (w : Value). IsNode kinds (view w) s.0) (sym is) s.3)
+node_there kinds (x ∷ vs) ns (suc i) v are within is =
+    let s = split kinds (items_view (x ∷ vs)) ns are in
+    node_there kinds vs s.1 i v s.4 (omega (arith, within)) is
 
-abbrev labelled : Label → Node → Bool
-labelled l n = label_eq (label_of n) l
+-- ---- one node at most
 
-swap_or : (a b c : Bool) → (a || (b || c)) ≡ (b || (a || c))
-swap_or true true c = refl
-swap_or true false c = refl
-swap_or false b c = refl
+label_once : (kinds : List (List ℕ)) (d : Data) (l m : Label) → LabelAt kinds d l → LabelAt kinds d m → l ≡ m
+label_once kinds d l m h k =
+    let first : l.kind ≡ m.kind = cc (h.0, k.0) in
+    let second : l.id ≡ m.id = cc (h.1, k.1) in
+    let fields : ◌≡◌ {A = Label} (record { kind = l.kind; id = l.id }) (record { kind = m.kind; id = m.id }) = rw (first, second) refl in
+    fields
 
-any-insert_node : (l : Label) (n : Node) (ns : List Node) → list_any (labelled l) (insert_node n ns) ≡ (labelled l n || list_any (labelled l) ns)
-any-insert_node l n [] = refl
-any-insert_node l n (m ∷ ns) =
-    elim (is_lt (label_cmp (label_of n) (label_of m))) as (λ (b : Bool). list_any (labelled l) (if b then n ∷ m ∷ ns else m ∷ insert_node n ns) ≡ (labelled l n || list_any (labelled l) (m ∷ ns))) [
-      | true ↦ refl
-      | false ↦ ap (λ b. labelled l m || b) (any-insert_node l n ns) ∙ swap_or (labelled l m) (labelled l n) (list_any (labelled l) ns)
-    ]
+attrs_once : (d : Data) (pairs others : Pairs) → AttrsAt d pairs → AttrsAt d others → pairs ≡ others
+attrs_once d pairs others (inl h, named) (inl k, also) = let same : attrs_members pairs ≡ attrs_members others = cc (h, k) in attrs_same pairs others same
+attrs_once d pairs others (inl h, named) (inr k, also) = absurd (cc (h, k.0))
+attrs_once d pairs others (inr h, named) (inl k, also) = absurd (cc (h.0, k))
+attrs_once d pairs others (inr h, named) (inr k, also) = h.1 ∙ sym k.1
 
-any-put : (l : Label) (ns placed : List Node) → list_any (labelled l) (put_in_order ns placed) ≡ (list_any (labelled l) ns || list_any (labelled l) placed)
-any-put l [] placed = refl
-any-put l (n ∷ ns) placed = any-put l ns (insert_node n placed) ∙ rw (any-insert_node l n placed) (swap_back (labelled l n) (list_any (labelled l) ns) (list_any (labelled l) placed))
-  where
-    swap_back : (a b c : Bool) → (b || (a || c)) ≡ ((a || b) || c)
-    swap_back true true c = refl
-    swap_back true false c = refl
-    swap_back false b c = refl
+local_once : (d : Data) (k l : Local) → LocalAt d k → LocalAt d l → k ≡ l
+local_once d k l h g =
+    let first : k.attrs ≡ l.attrs = attrs_once d k.attrs l.attrs h.0 g.0 in
+    let second : k.plain ≡ l.plain = h.1 ∙ sym g.1 in
+    let fields : ◌≡◌ {A = Local} (record { attrs = k.attrs; plain = k.plain }) (record { attrs = l.attrs; plain = l.plain }) = rw (first, second) refl in
+    fields
 
-any-in_order : (l : Label) (ns : List Node) → list_any (labelled l) (in_order ns) ≡ list_any (labelled l) ns
-any-in_order l ns = any-put l ns [] ∙ or_nothing (list_any (labelled l) ns)
-  where
-    or_nothing : (b : Bool) → (b || false) ≡ b
-    or_nothing true = refl
-    or_nothing false = refl
+items_once : (d : Data) (items others : Items) → NodesAt d items → NodesAt d others → items ≡ others
+items_once d items others (inl h) (inl k) = cc (h, k)
+items_once d items others (inl h) (inr k) = absurd (cc (h, k.0))
+items_once d items others (inr h) (inl k) = absurd (cc (h.0, k))
+items_once d items others (inr h) (inr k) = h.1 ∙ sym k.1
 
--- no child has the label, as a search and as a test
-none_labelled : (l : Label) (ns : List Node) → child_of l ns ≡ None → list_any (labelled l) ns ≡ false
-none_labelled l [] h = refl
-none_labelled l (n ∷ ns) h = by_test (labelled l n) h (λ e. none_labelled l ns e)
-  where
-    by_test : (b : Bool) → (if b then Some n else child_of l ns) ≡ None → (child_of l ns ≡ None → list_any (labelled l) ns ≡ false) → (b || list_any (labelled l) ns) ≡ false
-    by_test true e rest = absurd (cc)
-    by_test false e rest = rest e
+-- a value is one node at most
+mutual
+  pub node_once : (kinds : List (List ℕ)) (d : Data) (m n : Node) → IsNode kinds d m → IsNode kinds d n → m ≡ n
+  node_once kinds d m n (is_node same label local items given ordered own at are order) is =
+      let p = parts kinds d n is in
+      let items_are : p.0 ≡ items = items_once d p.0 items p.3 at in
+      let given_is : given ≡ p.1 = nodes_once kinds items given p.1 are (subst (λ (ds : Items). AreNodes kinds ds p.1) items_are p.4) in
+      let children : ordered ≡ children_of n = label_order_once p.1 ordered (children_of n) (subst (λ (ns : List Node). IsLabelOrder ns ordered) given_is order) p.5 in
+      same_node (node label local (nodes_of ordered)) n (label_once kinds d label (label_of n) own.1 p.2.1) (local_once d local (local_of n) own.2 p.2.2) (list_of-nodes_of ordered ∙ children)
 
-labelled_none : (l : Label) (ns : List Node) → list_any (labelled l) ns ≡ false → child_of l ns ≡ None
-labelled_none l [] h = refl
-labelled_none l (n ∷ ns) h = let p = or_parts (labelled l n) (list_any (labelled l) ns) h in rw p.0 (labelled_none l ns p.1)
-
-turned : (l : Label) (ns : List Node) → list_any (label_eq l) (labels_of ns) ≡ list_any (labelled l) ns
-turned l [] = refl
-turned l (n ∷ ns) = rw (turned l ns, labels_equiv.symm l (label_of n)) refl
-
-labels-append : (ms ns : List Node) → labels_of (ms ++ ns) ≡ labels_of ms ++ labels_of ns
-labels-append [] ns = refl
-labels-append (m ∷ ms) ns = ap (λ (ls : List Label). label_of m ∷ ls) (labels-append ms ns)
-
--- a sibling with a new label
-distinct_more : (ns : List Node) (n : Node) → IsDistinct label_eq (labels_of ns) → list_any (labelled (label_of n)) ns ≡ false → IsDistinct label_eq (labels_of (ns ++ n ∷ []))
-distinct_more ns n differ new =
-    subst (IsDistinct label_eq) (sym (labels-append ns (n ∷ []))) (IsDistinct-push labels_equiv (labels_of ns) (label_of n) differ (turned (label_of n) ns ∙ new))
-
-all_here : (P : Label → Type 0) (ns : List Node) (n : Node) (rest : List Node) → AllByRecursion P (labels_of (ns ++ n ∷ rest)) → P (label_of n)
-all_here P [] n rest h = h.0
-all_here P (m ∷ ns) n rest h = all_here P ns n rest h.1
-
--- of siblings that differ, none before a node has its label
-none_before : (ns : List Node) (n : Node) (rest : List Node) → IsDistinct label_eq (labels_of (ns ++ n ∷ rest)) → list_any (labelled (label_of n)) ns ≡ false
-unfolding IsDistinct
-none_before [] n rest h = refl
-none_before (m ∷ ns) n rest h = or_from (labelled (label_of n) m) (list_any (labelled (label_of n)) ns) (all_here (λ l. label_eq (label_of m) l ≡ false) ns n rest h.0) (none_before ns n rest h.1)
-
-put_last : (ns placed : List Node) (n : Node) → put_in_order (ns ++ n ∷ []) placed ≡ insert_node n (put_in_order ns placed)
-put_last [] placed n = refl
-put_last (m ∷ ns) placed n = put_last ns (insert_node m placed) n
+  pub nodes_once : (kinds : List (List ℕ)) (items : Items) (ms ns : List Node) → AreNodes kinds items ms → AreNodes kinds items ns → ms ≡ ns
+  nodes_once kinds items ms ns none are = sym (split kinds no_items ns are)
+  nodes_once kinds items ms ns (more d m rest others one all) are =
+      let s = split kinds (item d rest) ns are in
+      let first : m ≡ s.0 = node_once kinds d m s.0 one s.3 in
+      let later : others ≡ s.1 = nodes_once kinds rest others s.1 all s.4 in
+      ap (λ (x : Node). x ∷ others) first ∙ ap (λ (xs : List Node). s.0 ∷ xs) later ∙ sym s.2
 
 -- ---- the loop over the children
 
--- the first i of these values are the nodes ns, which are put into a first tree, and nothing else can be read
-pub record ReadSo (kinds : List (List ℕ)) (items : List Value) (i : ℕ) (first tree : Node) (ns : List Node) : Type 0 where
-  pub label : label_of tree ≡ label_of first
-  pub local : local_of tree ≡ local_of first
-  pub children : children_of tree ≡ in_order ns
+-- the first i of these values are the nodes ns
+pub record ReadSo (kinds : List (List ℕ)) (items : List Value) (i : ℕ) (ns : List Node) : Type 0 where
   pub are : AreNodes kinds (items_view (take i items)) ns
-  pub differ : IsDistinct label_eq (labels_of ns)
-  pub only : (all : List Node) → AreNodes kinds (items_view items) all → (rest : List Node) × (all ≡ ns ++ rest) × AreNodes kinds (items_view (drop i items)) rest
+  pub texts : EachOwns HoldsTexts (nodes_of ns)
 
-pub so_start : (kinds : List (List ℕ)) (items : List Value) (first : Node) → children_of first ≡ [] → ReadSo kinds items 0 first first []
-unfolding IsDistinct
-so_start kinds items first alone = record {
-  label = refl;
-  local = refl;
-  children = alone;
-  are = none;
-  differ = tt;
-  only = λ all are. (all, refl, are);
-}
+pub so_start : (kinds : List (List ℕ)) (items : List Value) (ns : List Node) → ns ≡ [] → ReadSo kinds items 0 ns
+so_start kinds items [] alone = record { are = none; texts = tt }
+so_start kinds items (n ∷ ns) alone = absurd (cc)
 
--- the node that the next value is in any reading of all
-pub next_node : (kinds : List (List ℕ)) (items : List Value) (i : ℕ) (first tree : Node) (ns : List Node) → ReadSo kinds items i first tree ns
-    → (v : Value) → i < length items → v ≡ get_or items i v → (all : List Node) → AreNodes kinds (items_view items) all
-    → (m : Node) × (rest : List Node) × (all ≡ ns ++ m ∷ rest) × IsNode kinds (view v) m × AreNodes kinds (items_view (drop (i + 1) items)) rest
-next_node kinds items i first tree ns s v within is all are =
-    let later = s.only all are in
-    let after : suc i ≡ i + 1 = omega arith in
-    let here : drop i items ≡ v ∷ drop (i + 1) items = drop-cons items i v within ∙ ap (λ (x : Value). x ∷ drop (suc i) items) (sym is) ∙ ap (λ k. v ∷ drop k items) after in
-    let front = split kinds (items_view (v ∷ drop (i + 1) items)) later.0 (subst (λ (vs : List Value). AreNodes kinds (items_view vs) later.0) here later.2) in
-    let whole_is : all ≡ ns ++ front.0 ∷ front.1 = later.1 ∙ ap (λ (ms : List Node). ns ++ ms) front.2 in
-    (front.0, front.1, whole_is, front.3, front.4)
-
--- in a reading of siblings that differ, the next node has a new label
-pub new_label : (tree : Node) (ns all : List Node) (m : Node) (rest : List Node) → children_of tree ≡ in_order ns → AreSiblings all → all ≡ ns ++ m ∷ rest → child_of (label_of m) (children_of tree) ≡ None
-new_label tree ns all m rest same siblings whole =
-    let differ = subst (λ (ms : List Node). IsDistinct label_eq (labels_of ms)) whole siblings in
-    ap (child_of (label_of m)) same ∙ labelled_none (label_of m) (in_order ns) (any-in_order (label_of m) ns ∙ none_before ns m rest differ)
-
-label-with_child : (t n : Node) → label_of (with_child t n) ≡ label_of t
-label-with_child (node label local below) n = refl
-
-local-with_child : (t n : Node) → local_of (with_child t n) ≡ local_of t
-local-with_child (node label local below) n = refl
-
-pub children-with_child : (t n : Node) → children_of (with_child t n) ≡ insert_node n (children_of t)
-children-with_child (node label local below) n = list_of-nodes_of (insert_node n (list_of below))
+texts_more : (ns : List Node) (n : Node) → EachOwns HoldsTexts (nodes_of ns) → EachHoldsTexts n → EachOwns HoldsTexts (nodes_of (ns ++ n ∷ []))
+texts_more [] n all one = (one, tt)
+texts_more (m ∷ ns) n all one = (all.0, texts_more ns n all.1 one)
 
 -- one child more
-pub so_step : (kinds : List (List ℕ)) (items : List Value) (i : ℕ) (first tree : Node) (ns : List Node) → ReadSo kinds items i first tree ns
-    → (v : Value) → i < length items → v ≡ get_or items i v → (n new : Node) → IsNode kinds (view v) n → ((m : Node) → IsNode kinds (view v) m → n ≡ m)
-    → new ≡ with_child tree n → child_of (label_of n) (children_of tree) ≡ None
-    → ReadSo kinds items (i + 1) first new (ns ++ n ∷ [])
-so_step kinds items i first tree ns s v within is n new one only made fresh =
-    let children_are : children_of new ≡ in_order (ns ++ n ∷ []) =
-    ap children_of made ∙ children-with_child tree n ∙ ap (insert_node n) s.children ∙ sym (put_last ns [] n) in
+pub so_step : (kinds : List (List ℕ)) (items : List Value) (i : ℕ) (ns : List Node) → ReadSo kinds items i ns → (v : Value) → i < length items → v ≡ get_or items i v
+    → (n : Node) → IsNode kinds (view v) n → EachHoldsTexts n → (new : List Node) → new ≡ ns ++ n ∷ [] → ReadSo kinds items (i + 1) new
+so_step kinds items i ns s v within is n one texts new made =
     let before : take i items ++ v ∷ [] ≡ take (i + 1) items = ap (λ (x : Value). take i items ++ x ∷ []) is ∙ sym (take_more items i v within) in
-    let unlabelled : list_any (labelled (label_of n)) ns ≡ false =
-    sym (any-in_order (label_of n) ns) ∙ none_labelled (label_of n) (in_order ns) (ap (child_of (label_of n)) (sym s.children) ∙ fresh) in
+    let are = subst (λ (vs : List Value). AreNodes kinds (items_view vs) (ns ++ n ∷ [])) before (nodes_more kinds (take i items) v ns n s.are one) in
     record {
-      label = ap label_of made ∙ label-with_child tree n ∙ s.label;
-      local = ap local_of made ∙ local-with_child tree n ∙ s.local;
-      children = children_are;
-      are = subst (λ (vs : List Value). AreNodes kinds (items_view vs) (ns ++ n ∷ [])) before (nodes_more kinds (take i items) v ns n s.are one);
-      differ = distinct_more ns n s.differ unlabelled;
-      only = λ all are.
-          let next = next_node kinds items i first tree ns s v within is all are in (
-            next.1,
-            next.2 ∙ ap (λ (m : Node). ns ++ m ∷ next.1) (sym (only next.0 next.3)) ∙ sym (append_assoc ns (n ∷ []) next.1),
-            next.4,
-          );
+      are = subst (AreNodes kinds (items_view (take (i + 1) items))) (sym made) are;
+      texts = subst (λ (ms : List Node). EachOwns HoldsTexts (nodes_of ms)) (sym made) (texts_more ns n s.texts texts);
     }
 
 -- ---- each child is less deep than the value that it is in
@@ -244,15 +170,8 @@ less_deep t d ms vs i v o at within is whole = omega (arith, whole, ap depth (ob
 
 -- ---- the ways out
 
-inside : (kinds : List (List ℕ)) (d : Data) (ms : Members) (t : Node) → Some ms ≡ as_object d → IsNode kinds d t → Parts kinds (object ms) t
-inside kinds d ms t o is = subst (λ (v : Data). Parts kinds v t) (object_of d ms o) (parts kinds d t is)
-
--- what there is below a node of this object, whose list of nodes is vs
-pub below_it : (kinds : List (List ℕ)) (d : Data) (ms : Members) (vs : List Value) (t : Node) → Some ms ≡ as_object d → ((items : Items) → NodesAt (object ms) items → items_view vs ≡ items) → IsNode kinds d t
-    → (below : List Node) × OwnAt kinds (object ms) (label_of t) (local_of t) × AreNodes kinds (items_view vs) below × AreSiblings below × (children_of t ≡ in_order below)
-below_it kinds d ms vs t o same is =
-    let p = inside kinds d ms t o is in
-    (p.1, p.2, subst (λ (items : Items). AreNodes kinds items p.1) (sym (same p.0 p.3)) p.4, p.5, p.6)
+inside : (kinds : List (List ℕ)) (d : Data) (ms : Members) (t : Node) → Some ms ≡ as_object d → IsNode kinds d t → NodeParts kinds (object ms) t
+inside kinds d ms t o is = subst (λ (v : Data). NodeParts kinds v t) (object_of d ms o) (parts kinds d t is)
 
 -- what a node of this object has itself
 pub own_of : (kinds : List (List ℕ)) (d : Data) (ms : Members) (t : Node) → Some ms ≡ as_object d → IsNode kinds d t → OwnAt kinds (object ms) (label_of t) (local_of t)
@@ -262,34 +181,27 @@ own_of kinds d ms t o is = (inside kinds d ms t o is).2
 pub nodes_of_it : (kinds : List (List ℕ)) (d : Data) (ms : Members) (t : Node) → Some ms ≡ as_object d → IsNode kinds d t → (items : Items) × NodesAt (object ms) items
 nodes_of_it kinds d ms t o is = let p = inside kinds d ms t o is in (p.0, p.3)
 
--- all of the values are read
-pub so_found : (kinds : List (List ℕ)) (d : Data) (ms : Members) (items : List Value) (i : ℕ) (first tree : Node) (ns : List Node) → ReadSo kinds items i first tree ns
-    → Some ms ≡ as_object d → (label : Label) (local : Local) → first ≡ node label local no_nodes → OwnAt kinds (object ms) label local → NodesAt (object ms) (items_view items) → length items ≤ i
-    → IsNode kinds d tree
-so_found kinds d ms items i first tree ns s o label local made own at end =
+-- what there is below a node of this object, whose list of nodes is vs
+pub below_it : (kinds : List (List ℕ)) (d : Data) (ms : Members) (vs : List Value) (t : Node) → Some ms ≡ as_object d → ((items : Items) → NodesAt (object ms) items → items_view vs ≡ items) → IsNode kinds d t
+    → (given : List Node) × AreNodes kinds (items_view vs) given × IsLabelOrder given (children_of t)
+below_it kinds d ms vs t o same is =
+    let p = inside kinds d ms t o is in
+    (p.1, subst (λ (items : Items). AreNodes kinds items p.1) (sym (same p.0 p.3)) p.4, p.5)
+
+all_read : (kinds : List (List ℕ)) (items : List Value) (i : ℕ) (ns : List Node) → ReadSo kinds items i ns → length items ≤ i → AreNodes kinds (items_view items) ns
+all_read kinds items i ns s end = subst (λ (vs : List Value). AreNodes kinds (items_view vs) ns) (take_all i items end) s.are
+
+-- all of the values are read, and put in order
+pub so_found : (kinds : List (List ℕ)) (d : Data) (ms : Members) (items : List Value) (i : ℕ) (ns : List Node) (tree : Node) → ReadSo kinds items i ns
+    → Some ms ≡ as_object d → (label : Label) (local : Local) → OwnAt kinds (object ms) label local → NodesAt (object ms) (items_view items) → length items ≤ i
+    → label_of tree ≡ label → local_of tree ≡ local → IsLabelOrder ns (children_of tree) → IsNode kinds d tree
+so_found kinds d ms items i ns tree s o label local own at end labels locals order =
     let own_it : OwnAt kinds (object ms) (label_of tree) (local_of tree) =
-    subst (λ (l : Label). OwnAt kinds (object ms) l (local_of tree)) (sym (s.label ∙ ap label_of made))
-    (subst (λ (k : Local). OwnAt kinds (object ms) label k) (sym (s.local ∙ ap local_of made)) own) in
-    let are = subst (λ (vs : List Value). AreNodes kinds (items_view vs) ns) (take_all i items end) s.are in
-    subst (λ (v : Data). IsNode kinds v tree) (sym (object_of d ms o)) (from_parts kinds (object ms) tree (items_view items) ns own_it at are s.differ s.children)
+    subst (λ (l : Label). OwnAt kinds (object ms) l (local_of tree)) (sym labels) (subst (λ (k : Local). OwnAt kinds (object ms) label k) (sym locals) own) in
+    subst (λ (v : Data). IsNode kinds v tree) (sym (object_of d ms o)) (from_parts kinds (object ms) tree (items_view items) ns own_it at (all_read kinds items i ns s end) order)
 
--- and there is no other node
-pub so_only : (kinds : List (List ℕ)) (items : List Value) (i : ℕ) (first tree t : Node) (ns below : List Node) → ReadSo kinds items i first tree ns
-    → (label : Label) (local : Local) → first ≡ node label local no_nodes → ◌≡◌ {A = Label × Local} (label, local) (label_of t, local_of t) → length items ≤ i
-    → AreNodes kinds (items_view items) below → children_of t ≡ in_order below → tree ≡ t
-so_only kinds items i first tree t ns below s label local made own end are children =
-    let later = s.only below are in
-    let past = drop_of_length-le items end in
-    let none_left : later.0 ≡ [] = split kinds no_items later.0 (subst (λ (vs : List Value). AreNodes kinds (items_view vs) later.0) past later.2) in
-    let all_read : below ≡ ns = later.1 ∙ ap (λ (ms : List Node). ns ++ ms) none_left ∙ append-nil ns in
-    same_node tree t (s.label ∙ ap label_of made ∙ ap (λ (p : Label × Local). p.0) own) (s.local ∙ ap local_of made ∙ ap (λ (p : Label × Local). p.1) own) (s.children ∙ ap in_order (sym all_read) ∙ sym children)
-
--- a child was added, so none had its label
-pub not_some : (o : Option Node) (u : Unit {0}) → (IsErrOf (Ok u) Twin ↔ IsSome o) → o ≡ None
-not_some None u twin = refl
-not_some (Some n) u twin = let e = twin.1 refl in absurd (cc)
-
--- where none has its label, only memory was missing
-pub insert_refused : (o : Option Node) (e : InsertError) (t : Node) → (IsErrOf {T = Unit {0}} (Err e) Twin ↔ IsSome o) → o ≡ None → GivesCityPart (Err (insert_error e)) t
-insert_refused o Twin t twin missing = let has : IsSome o = twin.0 refl in absurd (cc)
-insert_refused o Memory t twin missing = tt
+-- the values were read, and no two of the nodes have the same label where the value is a node
+pub so_distinct : (kinds : List (List ℕ)) (items : List Value) (i : ℕ) (ns : List Node) → ReadSo kinds items i ns → length items ≤ i
+    → (given ordered : List Node) → AreNodes kinds (items_view items) given → IsLabelOrder given ordered → HaveDistinctLabels ns
+so_distinct kinds items i ns s end given ordered are order =
+    subst HaveDistinctLabels (nodes_once kinds (items_view items) given ns are (all_read kinds items i ns s end)) (label_order_distinct given ordered order)

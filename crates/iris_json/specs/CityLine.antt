@@ -1,18 +1,17 @@
 -- The city line, as a relation between bytes and what a city holds, and why bytes are none.
 use Rattle.std.specs.Prelude.{◌≡◌, ◌⊎◌, ℕ, ◌<◌, ◌≤◌, true, Contains, List, [], ◌∷◌, map, length, codes, Some, None, Result, Ok, Err}
-use Rattle.std.specs.List.{IsDistinct}
 use Rattle.serde_json.specs.Data.{Data, string, array, Items, no_items, item}
 use Rattle.serde_json.specs.Find.{get}
 use Rattle.serde_json.specs.View.{items_of}
 use Rattle.iris_base.specs.declared.limits.TheConstants.{MAX_CITY_BYTES}
 use Rattle.iris_base.specs.declared.name.Label.{Label}
 use Rattle.iris_base.specs.Forms.{IsId, IsAgentId}
-use Rattle.iris_base.specs.NameOrder.{label_eq}
 use Rattle.iris_base.specs.NameText.{name_text}
 use Rattle.iris_tree.specs.declared.local.Local.{Local}
 use Rattle.iris_tree.specs.Attrs.{Pairs}
 use Rattle.iris_tree.specs.LocalText.{attrs_data}
-use Rattle.iris_tree.specs.Universe.{Node, node, nodes_of, label_of, labels_of, insert_node}
+use Rattle.iris_tree.specs.Siblings.{IsLabelOrder}
+use Rattle.iris_tree.specs.Universe.{Node, node, nodes_of, label_of}
 use Rattle.iris_json.specs.declared.city.City.{City}
 use Rattle.iris_json.specs.declared.city.CityError.{CityError}
 use Rattle.iris_json.specs.declared.city.CityError.TheVariants.{NotJson, BadCity, CityLimit, Memory}
@@ -57,24 +56,12 @@ LabelAt kinds d label = (get (codes "kind") d ≡ Some (string label.kind)) × (
 abbrev pub OwnAt : List (List ℕ) → Data → Label → Local → Type 0
 OwnAt kinds d label local = (has_only (codes "kind" ∷ codes "id" ∷ codes "attrs" ∷ codes "nodes" ∷ []) d ≡ true) × LabelAt kinds d label × LocalAt d local
 
--- the nodes in the order of their labels, put into it one after another
-abbrev pub put_in_order : List Node → List Node → List Node
-put_in_order [] placed = placed
-put_in_order (n ∷ ns) placed = put_in_order ns (insert_node n placed)
-
-abbrev pub in_order : List Node → List Node
-in_order ns = put_in_order ns []
-
--- no two siblings have one label
-abbrev pub AreSiblings : List Node → Type 0
-AreSiblings ns = IsDistinct label_eq (labels_of ns)
-
--- a value is a node
+-- a value is a node: the nodes below it are those of its list, in the order of their labels
 mutual
   pub data IsNode (kinds : List (List ℕ)) : Data → Node → Type 0 where
-    is_node : (d : Data) (label : Label) (local : Local) (items : Items) (below : List Node)
-        → OwnAt kinds d label local → NodesAt d items → AreNodes kinds items below → AreSiblings below
-        → IsNode kinds d (node label local (nodes_of (in_order below)))
+    is_node : (d : Data) (label : Label) (local : Local) (items : Items) (given ordered : List Node)
+        → OwnAt kinds d label local → NodesAt d items → AreNodes kinds items given → IsLabelOrder given ordered
+        → IsNode kinds d (node label local (nodes_of ordered))
 
   pub data AreNodes (kinds : List (List ℕ)) : Items → List Node → Type 0 where
     none : AreNodes kinds no_items []

@@ -11,8 +11,6 @@ use Rattle.iris_json.specs.declared.city.FormError.{FormError}
 use Rattle.iris_json.specs.declared.city.FormError.TheVariants as forms
 use Rattle.iris_base.specs.declared.error.NameError.{NameError}
 use Rattle.iris_base.specs.declared.error.NameError.TheVariants as names
-use Rattle.iris_tree.specs.declared.tree.InsertError.{InsertError}
-use Rattle.iris_tree.specs.declared.tree.InsertError.TheVariants as inserts
 
 -- bytes that are no JSON are told as such
 abbrev pub line_error : ValueError → LineError
@@ -33,8 +31,3 @@ city_error values.Memory = cities.Memory
 abbrev pub form_error : FormError → CityError
 form_error forms.Shape = cities.BadCity whys.Shape
 form_error forms.Memory = cities.Memory
-
--- two siblings with one label are in no city line
-abbrev pub insert_error : InsertError → FormError
-insert_error inserts.Twin = forms.Shape
-insert_error inserts.Memory = forms.Memory

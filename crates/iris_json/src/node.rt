@@ -12,23 +12,9 @@ ghost use Rattle.iris_json.specs.CityLine.{AttrsAt, LocalAt, NodesAt, LabelAt, O
 
 use crate::city::FormError;
 use crate::keys::{Members, has_only, text_at, value_at};
-use iris_tree::{Attrs, Id, InsertError, Kind, Label, Local, Sequence, Tag, Text, Tree, is_id};
+use iris_tree::{Attrs, Id, Kind, Label, Local, Sequence, Tag, Text, Tree, is_id};
 use serde_json::Value;
 use std::alloc::Global;
-
-impl From<InsertError> for FormError {
-    ghost use Rattle.std.specs.Prelude.{◌≡◌};
-    ghost use Rattle.iris_json.specs.Errors.{insert_error};
-
-    ghost from_gives = { λ error e. e ≡ insert_error error };
-
-    fn from(error: InsertError) -> FormError {
-        match error {
-            InsertError::Twin => FormError::Shape,
-            InsertError::Memory => FormError::Memory,
-        }
-    }
-}
 
 // The one of these kinds that is the word.
 fn kind_of(kinds: &[Kind], word: &str) -> Option<Kind>
@@ -160,9 +146,12 @@ pub fn read_node(alloc: Global, kinds: &[Kind], value: &Value) -> Result<Tree, F
         return Err(FormError::Shape);
     };
     let (label, local) = read_own(alloc, kinds, members)?;
-    let mut tree = Tree::new(alloc, label, local);
+    let mut children = Vec::new(alloc);
     for node in nodes_at(members)? {
-        tree.insert(read_node(alloc, kinds, node)?)?;
+        children.push(read_node(alloc, kinds, node)?)?;
     }
-    Ok(tree)
+    match Tree::with_children(label, local, children) {
+        Some(tree) => Ok(tree),
+        None => Err(FormError::Shape),
+    }
 }
