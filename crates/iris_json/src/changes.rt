@@ -90,9 +90,9 @@ pub fn read_changes(alloc: Global, items: &[Value]) -> Result<Sequence<Change>, 
     if items.is_empty() || items.len() > MAX_CHANGES {
         return Err(CHANGE);
     }
-    let mut changes = Sequence::new(alloc);
+    let mut changes = Vec::with_capacity(alloc, items.len())?;
     for item in items {
         changes.push(read_change(alloc, item)?)?;
     }
-    Ok(changes)
+    Ok(Sequence::from_vec(changes))
 }

@@ -10,7 +10,7 @@ use crate::changes::read_changes;
 use crate::keys::{Members, ValueError, has_only, list_at, read_value, text_at, value_at};
 use iris_tree::{Change, MAX_NUMBER, Memory, Name, NameError, Sequence, Text, read_name};
 use serde_json::{Number, Value};
-use std::alloc::Global;
+use std::alloc::{AllocError, AllocFailed, Global};
 use thiserror::Error;
 
 /// A line of a script after the first.
@@ -106,6 +106,28 @@ impl From<Memory> for LineError {
     ghost from_gives = { λ _ e. e ≡ Memory };
 
     fn from(_error: Memory) -> LineError {
+        LineError::Memory
+    }
+}
+
+impl From<AllocError> for LineError {
+    ghost use Rattle.std.specs.Prelude.{◌≡◌};
+    ghost use Rattle.iris_json.specs.declared.line.LineError.TheVariants.{Memory};
+
+    ghost from_gives = { λ _ e. e ≡ Memory };
+
+    fn from(_error: AllocError) -> LineError {
+        LineError::Memory
+    }
+}
+
+impl<T: Drop> From<AllocFailed<T>> for LineError {
+    ghost use Rattle.std.specs.Prelude.{◌≡◌};
+    ghost use Rattle.iris_json.specs.declared.line.LineError.TheVariants.{Memory};
+
+    ghost from_gives = { λ _ e. e ≡ Memory };
+
+    fn from(_error: AllocFailed<T>) -> LineError {
         LineError::Memory
     }
 }

@@ -146,8 +146,9 @@ pub fn read_node(alloc: Global, kinds: &[Kind], value: &Value) -> Result<Tree, F
         return Err(FormError::Shape);
     };
     let (label, local) = read_own(alloc, kinds, members)?;
-    let mut children = Vec::new(alloc);
-    for node in nodes_at(members)? {
+    let nodes = nodes_at(members)?;
+    let mut children = Vec::with_capacity(alloc, nodes.len())?;
+    for node in nodes {
         children.push(read_node(alloc, kinds, node)?)?;
     }
     match Tree::with_children(label, local, children) {

@@ -15,15 +15,15 @@ returns-then-is_empty-clause-refused c = (
 )
 
 pub loop-item-init : goal.loop-item-init
-loop-item-init c = so_start _ _ c.new-changes.ensures
+loop-item-init c = so_start _ _ c.in_ok-changes.ensures.items
 
 pub returns-in_err-read_change-clause-refused : goal.returns-in_err-read_change-clause-refused
 returns-in_err-read_change-clause-refused c =
-    let p = err_from_is_err_and c.from_residual.result c.from_residual.ensures.1 in
+    let p = err_from_is_err_and c.from_residual-in_err-read_change.result c.from_residual-in_err-read_change.ensures.1 in
     rw (p.1, p.2) (refused_too _ _ _ _ (λ none changes are. (let here = are_each _ changes _ c.item-item.result c.loop-item-test.true c.item-item.is are in none here.0 here.1 here.2)) c.in_err-read_change.ensures.refused)
 
 pub loop-item-preserved : goal.loop-item-preserved
-loop-item-preserved c = so_step _ _ _ c.loop-item.invariant c.item-item.result c.loop-item-test.true c.item-item.is _ c.in_ok-read_change.ensures.found _ c.in_ok-push.ensures.ok
+loop-item-preserved c = so_step _ _ _ c.loop-item.invariant c.item-item.result c.loop-item-test.true c.item-item.is _ c.in_ok-read_change.ensures.found _ c.in_ok-push.ensures.items
 
 pub returns-clause-found : goal.returns-clause-found
-returns-clause-found c = so_found _ _ _ c.loop-item.invariant c.loop-item-test.false (not_empty _ _ c.is_empty.ensures c.if-is_empty.false) (omega (arith, c.if-items-gt-MAX_CHANGES.false))
+returns-clause-found c = rw c.from_vec.ensures (so_found _ _ _ c.loop-item.invariant c.loop-item-test.false (not_empty _ _ c.is_empty.ensures c.if-is_empty.false) (omega (arith, c.if-items-gt-MAX_CHANGES.false)))

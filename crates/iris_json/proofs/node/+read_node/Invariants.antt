@@ -7,4 +7,4 @@ abbrev pub decreases-read_node : goal.decreases-read_node
 decreases-read_node l = depth (view l.value.now)
 
 abbrev pub invariant-loop-node : goal.invariant-loop-node
-invariant-loop-node l = ReadSo l.kinds l.node-items l.node-index l.children.items
+invariant-loop-node l = ReadSo l.kinds l.nodes l.node-index l.children.items
