@@ -50,10 +50,12 @@ abbrev mutual
   pub EachOwn : (Label → Local → Type 0) → Node → Type 0
   EachOwn Such (node label local below) = Such label local × EachOwns Such below
 
+  -- and what each of all nodes of these is
   pub EachOwns : (Label → Local → Type 0) → Nodes → Type 0
   EachOwns Such no_nodes = ⊤
   EachOwns Such (nodes n ns) = EachOwn Such n × EachOwns Such ns
 
+-- what a node holds itself: attributes in order, with texts as their values
 abbrev pub HoldsTexts : Label → Local → Type 0
 HoldsTexts label local = AreTexts local.attrs
 
@@ -67,19 +69,23 @@ abbrev mutual
   IsCityNode kinds zero n = ⊥
   IsCityNode kinds (suc levels) (node label local below) = IsCityOwn kinds label local × (length (list_of below) ≤ MAX_CHILDREN) × AreCityNodes kinds levels below
 
+  -- nodes of a city, each with at most so many levels of nodes
   pub AreCityNodes : List (List ℕ) → ℕ → Nodes → Type 0
   AreCityNodes kinds levels no_nodes = ⊤
   AreCityNodes kinds levels (nodes n ns) = IsCityNode kinds levels n × AreCityNodes kinds levels ns
 
 -- ---- each of these facts has one proof, since a city keeps them
 
+-- of the kinds
 pub AreKinds-prop : (kinds : List (List ℕ)) → IsProp (AreKinds kinds)
 AreKinds-prop kinds = hlevel props
 
+-- of what a node of a city is called and holds itself
 pub IsCityOwn-prop : (kinds : List (List ℕ)) (label : Label) (local : Local) → IsProp (IsCityOwn kinds label local)
 IsCityOwn-prop kinds label local = hlevel props
 
 mutual
+  -- of a node of a city
   pub IsCityNode-prop : (kinds : List (List ℕ)) (levels : ℕ) (n : Node) → IsProp (IsCityNode kinds levels n)
   IsCityNode-prop kinds zero n = hlevel props
   IsCityNode-prop kinds (suc levels) (node label local below) = hlevel (IsCityOwn-prop kinds label local, AreCityNodes-prop kinds levels below, props)

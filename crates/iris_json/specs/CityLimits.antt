@@ -13,6 +13,7 @@ abbrev mutual
   pub levels_of : Node → ℕ
   levels_of (node label local below) = suc (levels_below below)
 
+  -- the labels of the longest name below a node, from there on
   pub levels_below : Nodes → ℕ
   levels_below no_nodes = 0
   levels_below (nodes n ns) = max (levels_of n) (levels_below ns)
@@ -22,15 +23,18 @@ abbrev mutual
   pub greatest_count : (Node → ℕ) → Node → ℕ
   greatest_count count (node label local below) = max (count (node label local below)) (greatest_below count below)
 
+  -- the greatest count of a node of these trees
   pub greatest_below : (Node → ℕ) → Nodes → ℕ
   greatest_below count no_nodes = 0
   greatest_below count (nodes n ns) = max (greatest_count count n) (greatest_below count ns)
 
 -- ---- of one node
 
+-- its children
 abbrev pub count_children : Node → ℕ
 count_children n = length (children_of n)
 
+-- its attributes
 abbrev pub count_attributes : Node → ℕ
 count_attributes n = length ((local_of n).attrs)
 

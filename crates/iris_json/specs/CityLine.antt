@@ -63,6 +63,7 @@ mutual
         → OwnAt kinds d label local → NodesAt d items → AreNodes kinds items given → IsLabelOrder given ordered
         → IsNode kinds d (node label local (nodes_of ordered))
 
+  -- each of these values is the node at its place of the list
   pub data AreNodes (kinds : List (List ℕ)) : Items → List Node → Type 0 where
     none : AreNodes kinds no_items []
     more : (d : Data) (n : Node) (items : Items) (ns : List Node) → IsNode kinds d n → AreNodes kinds items ns → AreNodes kinds (item d items) (n ∷ ns)

@@ -19,10 +19,12 @@ abbrev mutual
   without_plain (array ds) = array (items_without_plain ds)
   without_plain (object ms) = object (members_without_plain ms)
 
+  -- each of these values without it
   pub items_without_plain : Items → Items
   items_without_plain no_items = no_items
   items_without_plain (item d ds) = item (without_plain d) (items_without_plain ds)
 
+  -- the members of an object without it, and so what the key `nodes` has
   pub members_without_plain : Members → Members
   members_without_plain no_members = no_members
   members_without_plain (member k d ms) = if bytes_eq k (codes "plain") then members_without_plain ms else member k (if bytes_eq k (codes "nodes") then without_plain d else d) (members_without_plain ms)

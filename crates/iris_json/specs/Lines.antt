@@ -22,9 +22,11 @@ use Rattle.iris_json.specs.declared.line.LineError.TheVariants.{NotJson, BadLine
 abbrev pub IsJson : List ℕ → Data → Type 0
 IsJson bytes d = IsUtf8 bytes × (read bytes ≡ Some d)
 
+-- whether a key is one of these
 abbrev pub is_among : List (List ℕ) → List ℕ → Bool
 is_among keys key = list_any (λ known. bytes_eq known key) keys
 
+-- whether each key of an object is one of these
 abbrev pub all_among : List (List ℕ) → Members → Bool
 all_among keys no_members = true
 all_among keys (member key d more) = is_among keys key && all_among keys more
@@ -40,12 +42,15 @@ has_only keys (object ms) = all_among keys ms
 
 -- ---- the form of a line
 
+-- a value has that text at a key
 abbrev pub TextAt : List ℕ → Data → List ℕ → Type 0
 TextAt key d text = get key d ≡ Some (string text)
 
+-- a value has that number at a key
 abbrev pub NumberAt : List ℕ → Data → Num → Type 0
 NumberAt key d n = get key d ≡ Some (number n)
 
+-- a value has that list at a key
 abbrev pub ListAt : List ℕ → Data → Items → Type 0
 ListAt key d items = get key d ≡ Some (array items)
 
@@ -95,6 +100,7 @@ pub record IsWhole (least : ℕ) (n : Num) (value : ℕ) : Type 0 where
   pub some : least ≤ value
   pub most : value ≤ MAX_NUMBER
 
+-- the number at a key, where there is one, is whole and in its range
 abbrev pub HasWhole : List ℕ → ℕ → Data → Type 0
 HasWhole key least d = (n : Num) → NumberAt key d n → (value : ℕ) × IsWhole least n value
 
@@ -176,8 +182,10 @@ RefusesLinePart why nothing Memory = Unit {0}
 
 -- ---- short lists, for the readers of their parts
 
+-- a list of two values
 abbrev pub pair_data : Data → Data → Data
 pair_data a b = array (item a (item b no_items))
 
+-- a list of three values
 abbrev pub triple_data : Data → Data → Data → Data
 triple_data a b c = array (item a (item b (item c no_items)))

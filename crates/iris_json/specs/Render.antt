@@ -24,6 +24,7 @@ abbrev mutual
       (member (codes "plain") (array (items_of (map plain_data local.plain)))
       no_members)))))
 
+  -- nodes, in their order
   pub nodes_data : Nodes → Items
   nodes_data no_nodes = no_items
   nodes_data (nodes n ns) = item (node_data n) (nodes_data ns)

@@ -15,10 +15,6 @@ mod out;
 mod row;
 #[cfg(test)]
 mod tests;
-#[cfg(test)]
-mod tests_lines;
-#[cfg(test)]
-mod tests_read;
 
 pub use city::{City, CityError, CityWhy};
 pub use city_line::read_city;
