@@ -9,8 +9,8 @@ use Rattle.std.specs.Cmp.Lexicographic.{slice_cmp}
 use Rattle.iris_base.specs.declared.name.Label.{Label}
 use Rattle.iris_base.specs.NameOrder.{label_cmp}
 use Rattle.iris_base.specs.Under.{Under}
-use Rattle.iris_fragment.specs.declared.held.Held.{Held}
-use Rattle.iris_fragment.specs.Held.{Nodes, held_at, is_held, stands, stands_above, has_place, cut}
+use Rattle.iris_fragment.specs.declared.held.HeldNode.{HeldNode}
+use Rattle.iris_fragment.specs.Contents.{Nodes, held_at, is_held, stands, stands_above, has_place, cut}
 use Rattle.iris_fragment.specs.Changes.{is_right_above, has_child}
 use Rattle.iris_fragment.specs.Shape.{IsRooted}
 use Rattle.iris_fragment.proofs.Names.{name_exact, name_self, alike_self, alike_exact, equal_from_is_eq, less_below, under_between, cut_last, cut_joined}
@@ -61,7 +61,7 @@ or_cases : (a b : Bool) → (a || b) ≡ true → a ≡ false → b ≡ true
 or_cases true b h e = absurd (cc)
 or_cases false b h e = h
 
-child_of_head : (nodes : Nodes) (n : List Label) (x : Label) (e : List Label × Held) (b : Bool) → is_at (slice_cmp label_cmp (n ++ x ∷ [])) e.0 ≡ b
+child_of_head : (nodes : Nodes) (n : List Label) (x : Label) (e : List Label × HeldNode) (b : Bool) → is_at (slice_cmp label_cmp (n ++ x ∷ [])) e.0 ≡ b
     → (is_held nodes (n ++ x ∷ []) ≡ true → list_any (λ e. is_right_above n (cut e.0)) nodes ≡ true)
     → is_some (cond b (Some e.1) (held_at nodes (n ++ x ∷ []))) ≡ true → (is_right_above n (cut e.0) || list_any (λ e. is_right_above n (cut e.0)) nodes) ≡ true
 child_of_head nodes n x e true at more h =
@@ -75,7 +75,7 @@ pub child_found : (nodes : Nodes) (n : List Label) (x : Label) → is_held nodes
 child_found [] n x h = absurd (cc)
 child_found (e ∷ nodes) n x h = child_of_head nodes n x e _ refl (child_found nodes n x) h
 
-some_either : (b : Bool) (v : Held) (o : Option Held) → is_some o ≡ true → is_some (cond b (Some v) o) ≡ true
+some_either : (b : Bool) (v : HeldNode) (o : Option HeldNode) → is_some o ≡ true → is_some (cond b (Some v) o) ≡ true
 some_either true v o h = refl
 some_either false v o h = h
 
@@ -83,7 +83,7 @@ right_above : (n : List Label) (o : Option (List Label × Label)) → is_right_a
 right_above n None h = absurd (cc)
 right_above n (Some p) h = (p, refl, alike_exact n p.0 h)
 
-there : (nodes : Nodes) (n : List Label) (e : List Label × Held) (b : Bool) → is_right_above n (cut e.0) ≡ b
+there : (nodes : Nodes) (n : List Label) (e : List Label × HeldNode) (b : Bool) → is_right_above n (cut e.0) ≡ b
     → (has_child nodes n ≡ true → (x : Label) × (is_held nodes (n ++ x ∷ []) ≡ true))
     → (b || has_child nodes n) ≡ true → (x : Label) × (is_held (e ∷ nodes) (n ++ x ∷ []) ≡ true)
 there nodes n e true right more h =

@@ -11,11 +11,11 @@ use Rattle.std.proofs.lemmas.Map.Keys.{IsDistinct-from_sorted}
 use Rattle.iris_base.specs.declared.name.Label.{Label}
 use Rattle.iris_base.specs.NameOrder.{label_eq, label_cmp, names_total, names_ties, names_equiv}
 use Rattle.iris_tree.specs.Universe.{Node}
-use Rattle.iris_fragment.specs.declared.held.Held.{Held}
+use Rattle.iris_fragment.specs.declared.held.HeldNode.{HeldNode}
 use Rattle.iris_fragment.specs.declared.held.Part.{Part}
-use Rattle.iris_fragment.specs.Held.{Nodes, Contents, held_at, is_held, stands, stands_above, has_place, cut}
+use Rattle.iris_fragment.specs.Contents.{Nodes, Contents, held_at, is_held, stands, stands_above, has_place, cut}
 use Rattle.iris_fragment.specs.Changes.{with_node, without_node, replaced, with_part, with_part_in, has_child}
-use Rattle.iris_fragment.specs.Shape.{AreOrdered, IsRooted, HaveIdsOf, IsPartOf, ids_at}
+use Rattle.iris_fragment.specs.Shape.{AreInNameOrder, IsRooted, HaveIdsOf, IsFragmentOf, ids_at}
 use Rattle.iris_fragment.proofs.Names.{alike_exact, name_exact, name_self, equal_from_is_eq, cut_joined}
 use Rattle.iris_fragment.proofs.Children.{child_found}
 
@@ -24,7 +24,7 @@ use Rattle.iris_fragment.proofs.Children.{child_found}
 same_name : (m n : List Label) → is_at (slice_cmp label_cmp m) n ≡ true → m ≡ n
 same_name m n h = name_exact m n (equal_from_is_eq _ h)
 
-put_first : (o : Ordering) (k : List Label) (v : Held) (e : List Label × Held) (es more : Nodes) (q : List Label) → slice_cmp label_cmp k e.0 ≡ o
+put_first : (o : Ordering) (k : List Label) (v : HeldNode) (e : List Label × HeldNode) (es more : Nodes) (q : List Label) → slice_cmp label_cmp k e.0 ≡ o
     → held_at more q ≡ cond (is_at (slice_cmp label_cmp q) k) (Some v) (held_at es q)
     → held_at (match_ordering o ((k, v) ∷ e ∷ es) ((e.0, v) ∷ es) (e ∷ more)) q ≡ cond (is_at (slice_cmp label_cmp q) k) (Some v) (held_at (e ∷ es) q)
 put_first Less k v e es more q at h = refl
@@ -48,28 +48,28 @@ put_first Greater k v e es more q at h = rw h (either _ _ refl refl)
     either false true first here = refl
     either false false first here = refl
 
-pub held-with_node : (nodes : Nodes) (k : List Label) (v : Held) (q : List Label) → held_at (with_node nodes k v) q ≡ cond (is_at (slice_cmp label_cmp q) k) (Some v) (held_at nodes q)
+pub held-with_node : (nodes : Nodes) (k : List Label) (v : HeldNode) (q : List Label) → held_at (with_node nodes k v) q ≡ cond (is_at (slice_cmp label_cmp q) k) (Some v) (held_at nodes q)
 held-with_node [] k v q = refl
 held-with_node (e ∷ es) k v q = put_first (slice_cmp label_cmp k e.0) k v e es (with_node es k v) q refl (held-with_node es k v q)
 
 one_name : (name x y : List Label) → is_at (slice_cmp label_cmp name) x ≡ true → is_at (slice_cmp label_cmp name) y ≡ eq_by_cmp (slice_cmp label_cmp) x y
 one_name name x y h = ap (λ (m : List Label). is_at (slice_cmp label_cmp m) y) (same_name name x h)
 
-pub held-replaced : (nodes : Nodes) (name : List Label) (v : Held) (q : List Label) → is_held nodes name ≡ true
+pub held-replaced : (nodes : Nodes) (name : List Label) (v : HeldNode) (q : List Label) → is_held nodes name ≡ true
     → held_at (replaced nodes name v) q ≡ cond (is_at (slice_cmp label_cmp name) q) (Some v) (held_at nodes q)
 held-replaced nodes name v q held = lookup-set_value (eq_by_cmp_equiv names_total) (is_at (slice_cmp label_cmp name)) (one_name name) q v nodes held
 
-pub held-without : (nodes : Nodes) (name q : List Label) → AreOrdered nodes → held_at (without_node nodes name) q ≡ cond (is_at (slice_cmp label_cmp name) q) None (held_at nodes q)
+pub held-without : (nodes : Nodes) (name q : List Label) → AreInNameOrder nodes → held_at (without_node nodes name) q ≡ cond (is_at (slice_cmp label_cmp name) q) None (held_at nodes q)
 held-without nodes name q ordered = lookup-remove_entry (eq_by_cmp_equiv names_total) (is_at (slice_cmp label_cmp name)) (one_name name) q nodes (IsDistinct-from_sorted _ _ ordered)
 
 -- what is held under a name once a part was put
-held-part_in : (nodes : Nodes) (name : List Label) (part : Part) (q : List Label) (o : Option Held) → held_at nodes name ≡ o → is_held (with_part_in o nodes name part) q ≡ is_held nodes q
+held-part_in : (nodes : Nodes) (name : List Label) (part : Part) (q : List Label) (o : Option HeldNode) → held_at nodes name ≡ o → is_held (with_part_in o nodes name part) q ≡ is_held nodes q
 held-part_in nodes name part q None h = refl
 held-part_in nodes name part q (Some node) h =
-    ap (λ (o : Option Held). is_some o) (held-replaced nodes name (record { ids = node.ids; part = part }) q (ap (λ (o : Option Held). is_some o) h)) ∙ either _ refl
+    ap (λ (o : Option HeldNode). is_some o) (held-replaced nodes name (record { ids = node.ids; part = part }) q (ap (λ (o : Option HeldNode). is_some o) h)) ∙ either _ refl
   where
     either : (b : Bool) → is_at (slice_cmp label_cmp name) q ≡ b → is_some (cond b (Some (record { ids = node.ids; part = part })) (held_at nodes q)) ≡ is_held nodes q
-    either true at = sym (ap (λ (o : Option Held). is_some o) (subst (λ (m : List Label). held_at nodes m ≡ Some node) (same_name name q at) h))
+    either true at = sym (ap (λ (o : Option HeldNode). is_some o) (subst (λ (m : List Label). held_at nodes m ≡ Some node) (same_name name q at) h))
     either false at = refl
 
 pub held-part : (nodes : Nodes) (name : List Label) (part : Part) (q : List Label) → is_held (with_part nodes name part) q ≡ is_held nodes q
@@ -78,14 +78,14 @@ held-part nodes name part q = held-part_in nodes name part q (held_at nodes name
 alike_at : (m n : List Label) → is_at (slice_cmp label_cmp m) n ≡ pointwise label_eq m n
 alike_at m n = sym (names_ties m n)
 
-pub look_up_put : (nodes : Nodes) (name other : List Label) (node : Held) → held_at (with_node nodes name node) other ≡ cond (pointwise label_eq name other) (Some node) (held_at nodes other)
+pub look_up_put : (nodes : Nodes) (name other : List Label) (node : HeldNode) → held_at (with_node nodes name node) other ≡ cond (pointwise label_eq name other) (Some node) (held_at nodes other)
 look_up_put nodes name other node =
     held-with_node nodes name node other ∙ ap (λ (b : Bool). cond b (Some node) (held_at nodes other)) (alike_at other name ∙ names_equiv.symm other name)
 
-pub look_up_left_out : (nodes : Nodes) (name other : List Label) → AreOrdered nodes → held_at (without_node nodes name) other ≡ cond (pointwise label_eq name other) None (held_at nodes other)
+pub look_up_left_out : (nodes : Nodes) (name other : List Label) → AreInNameOrder nodes → held_at (without_node nodes name) other ≡ cond (pointwise label_eq name other) None (held_at nodes other)
 look_up_left_out nodes name other ordered = held-without nodes name other ordered ∙ ap (λ (b : Bool). cond b None (held_at nodes other)) (alike_at name other)
 
-replaced_in : (nodes : Nodes) (name other : List Label) (part : Part) (o : Option Held) → held_at nodes name ≡ o
+replaced_in : (nodes : Nodes) (name other : List Label) (part : Part) (o : Option HeldNode) → held_at nodes name ≡ o
     → held_at (with_part_in o nodes name part) other ≡ cond (pointwise label_eq name other) (option_map (λ node. record { ids = node.ids; part = part }) o) (held_at nodes other)
 replaced_in nodes name other part None at = either _ refl
   where
@@ -93,7 +93,7 @@ replaced_in nodes name other part None at = either _ refl
     either true same = subst (λ (n : List Label). held_at nodes n ≡ None) (alike_exact name other same) at
     either false same = refl
 replaced_in nodes name other part (Some node) at =
-    held-replaced nodes name (record { ids = node.ids; part = part }) other (ap (λ (o : Option Held). is_some o) at)
+    held-replaced nodes name (record { ids = node.ids; part = part }) other (ap (λ (o : Option HeldNode). is_some o) at)
     ∙ ap (λ (b : Bool). cond b (Some (record { ids = node.ids; part = part })) (held_at nodes other)) (alike_at name other)
 
 pub look_up_replaced : (nodes : Nodes) (name other : List Label) (part : Part)
@@ -117,15 +117,15 @@ pub rooted_part : (nodes : Nodes) (name : List Label) (part : Part) → IsRooted
 rooted_part nodes name part rooted n h =
     place_still nodes (with_part nodes name part) (λ q k. held-part nodes name part q ∙ k) n (rooted n (sym (held-part nodes name part n) ∙ h))
 
-pub rooted_node : (nodes : Nodes) (name : List Label) (v : Held) → has_place nodes name ≡ true → IsRooted nodes → IsRooted (with_node nodes name v)
-rooted_node nodes name v place rooted n h = place_still nodes (with_node nodes name v) more n (here _ refl (sym (ap (λ (o : Option Held). is_some o) (held-with_node nodes name v n)) ∙ h))
+pub rooted_node : (nodes : Nodes) (name : List Label) (v : HeldNode) → has_place nodes name ≡ true → IsRooted nodes → IsRooted (with_node nodes name v)
+rooted_node nodes name v place rooted n h = place_still nodes (with_node nodes name v) more n (here _ refl (sym (ap (λ (o : Option HeldNode). is_some o) (held-with_node nodes name v n)) ∙ h))
   where
-    either : (b : Bool) (o : Option Held) → is_some o ≡ true → is_some (cond b (Some v) o) ≡ true
+    either : (b : Bool) (o : Option HeldNode) → is_some o ≡ true → is_some (cond b (Some v) o) ≡ true
     either true o k = refl
     either false o k = k
 
     more : (q : List Label) → is_held nodes q ≡ true → is_held (with_node nodes name v) q ≡ true
-    more q k = ap (λ (o : Option Held). is_some o) (held-with_node nodes name v q) ∙ either _ _ k
+    more q k = ap (λ (o : Option HeldNode). is_some o) (held-with_node nodes name v q) ∙ either _ _ k
 
     here : (b : Bool) → is_at (slice_cmp label_cmp n) name ≡ b → is_some (cond b (Some v) (held_at nodes n)) ≡ true → has_place nodes n ≡ true
     here true at k = subst (λ (m : List Label). has_place nodes m ≡ true) (sym (same_name n name at)) place
@@ -142,57 +142,57 @@ apart_from_child nodes name n p none held at = by_test _ refl
         let bad : false ≡ true = sym none ∙ child in
         absurd (cc)
 
-held_apart : (nodes : Nodes) (name q : List Label) → AreOrdered nodes → is_at (slice_cmp label_cmp name) q ≡ false → is_held (without_node nodes name) q ≡ is_held nodes q
-held_apart nodes name q ordered apart = ap (λ (o : Option Held). is_some o) (held-without nodes name q ordered ∙ rw apart refl)
+held_apart : (nodes : Nodes) (name q : List Label) → AreInNameOrder nodes → is_at (slice_cmp label_cmp name) q ≡ false → is_held (without_node nodes name) q ≡ is_held nodes q
+held_apart nodes name q ordered apart = ap (λ (o : Option HeldNode). is_some o) (held-without nodes name q ordered ∙ rw apart refl)
 
-stands_apart : (nodes : Nodes) (name q : List Label) → AreOrdered nodes → is_at (slice_cmp label_cmp name) q ≡ false → stands nodes q ≡ true → stands (without_node nodes name) q ≡ true
+stands_apart : (nodes : Nodes) (name q : List Label) → AreInNameOrder nodes → is_at (slice_cmp label_cmp name) q ≡ false → stands nodes q ≡ true → stands (without_node nodes name) q ≡ true
 stands_apart nodes name [] ordered apart h = refl
 stands_apart nodes name (l ∷ ls) ordered apart h = held_apart nodes name (l ∷ ls) ordered apart ∙ h
 
-pub above_apart : (nodes : Nodes) (name n : List Label) → AreOrdered nodes → has_child nodes name ≡ false → is_held nodes n ≡ true → (o : Option (List Label × Label)) → cut n ≡ o
+pub above_apart : (nodes : Nodes) (name n : List Label) → AreInNameOrder nodes → has_child nodes name ≡ false → is_held nodes n ≡ true → (o : Option (List Label × Label)) → cut n ≡ o
     → stands_above nodes o ≡ true → stands_above (without_node nodes name) o ≡ true
 above_apart nodes name n ordered none held None at h = h
 above_apart nodes name n ordered none held (Some p) at h = stands_apart nodes name p.0 ordered (apart_from_child nodes name n p none held at) h
 
-pub still_held : (nodes : Nodes) (name n : List Label) → AreOrdered nodes → is_held (without_node nodes name) n ≡ true → is_held nodes n ≡ true
-still_held nodes name n ordered h = either _ _ (sym (ap (λ (o : Option Held). is_some o) (held-without nodes name n ordered)) ∙ h)
+pub still_held : (nodes : Nodes) (name n : List Label) → AreInNameOrder nodes → is_held (without_node nodes name) n ≡ true → is_held nodes n ≡ true
+still_held nodes name n ordered h = either _ _ (sym (ap (λ (o : Option HeldNode). is_some o) (held-without nodes name n ordered)) ∙ h)
   where
-    either : (b : Bool) (o : Option Held) → is_some (cond b None o) ≡ true → is_some o ≡ true
+    either : (b : Bool) (o : Option HeldNode) → is_some (cond b None o) ≡ true → is_some o ≡ true
     either true o k = absurd (cc)
     either false o k = k
 
 -- a node without held children is left out
-pub rooted_without : (nodes : Nodes) (name : List Label) → AreOrdered nodes → has_child nodes name ≡ false → IsRooted nodes → IsRooted (without_node nodes name)
+pub rooted_without : (nodes : Nodes) (name : List Label) → AreInNameOrder nodes → has_child nodes name ≡ false → IsRooted nodes → IsRooted (without_node nodes name)
 rooted_without nodes name ordered none rooted n h =
     let held = still_held nodes name n ordered h in
     above_apart nodes name n ordered none held (cut n) refl (rooted n held)
 
 -- ---- the ids of a city
 
-pub ids_node : (city : Node) (nodes : Nodes) (name : List Label) (v : Held) → ids_at city name ≡ Some v.ids → HaveIdsOf city nodes → HaveIdsOf city (with_node nodes name v)
+pub ids_node : (city : Node) (nodes : Nodes) (name : List Label) (v : HeldNode) → ids_at city name ≡ Some v.ids → HaveIdsOf city nodes → HaveIdsOf city (with_node nodes name v)
 ids_node city nodes name v right of_city n node h = either _ refl (sym (held-with_node nodes name v n) ∙ h)
   where
     either : (b : Bool) → is_at (slice_cmp label_cmp n) name ≡ b → cond b (Some v) (held_at nodes n) ≡ Some node → ids_at city n ≡ Some node.ids
     either true at k =
         let is : v ≡ node = cc in
-        subst (λ (m : List Label). ids_at city m ≡ Some node.ids) (sym (same_name n name at)) (right ∙ ap (λ (w : Held). Some w.ids) is)
+        subst (λ (m : List Label). ids_at city m ≡ Some node.ids) (sym (same_name n name at)) (right ∙ ap (λ (w : HeldNode). Some w.ids) is)
     either false at k = of_city n node k
 
-ids_part_in : (city : Node) (nodes : Nodes) (name : List Label) (part : Part) (o : Option Held) → held_at nodes name ≡ o → HaveIdsOf city nodes → HaveIdsOf city (with_part_in o nodes name part)
+ids_part_in : (city : Node) (nodes : Nodes) (name : List Label) (part : Part) (o : Option HeldNode) → held_at nodes name ≡ o → HaveIdsOf city nodes → HaveIdsOf city (with_part_in o nodes name part)
 ids_part_in city nodes name part None is of_city n node h = of_city n node h
 ids_part_in city nodes name part (Some old) is of_city n node h =
-    either _ refl (sym (held-replaced nodes name (record { ids = old.ids; part = part }) n (ap (λ (o : Option Held). is_some o) is)) ∙ h)
+    either _ refl (sym (held-replaced nodes name (record { ids = old.ids; part = part }) n (ap (λ (o : Option HeldNode). is_some o) is)) ∙ h)
   where
     either : (b : Bool) → is_at (slice_cmp label_cmp name) n ≡ b → cond b (Some (record { ids = old.ids; part = part })) (held_at nodes n) ≡ Some node → ids_at city n ≡ Some node.ids
     either true at k =
         let same : record { ids = old.ids; part = part } ≡ node = cc in
-        subst (λ (m : List Label). ids_at city m ≡ Some node.ids) (same_name name n at) (of_city name old is ∙ ap (λ (w : Held). Some w.ids) same)
+        subst (λ (m : List Label). ids_at city m ≡ Some node.ids) (same_name name n at) (of_city name old is ∙ ap (λ (w : HeldNode). Some w.ids) same)
     either false at k = of_city n node k
 
 pub ids_part : (city : Node) (nodes : Nodes) (name : List Label) (part : Part) → HaveIdsOf city nodes → HaveIdsOf city (with_part nodes name part)
 ids_part city nodes name part = ids_part_in city nodes name part (held_at nodes name) refl
 
-pub ids_without : (city : Node) (nodes : Nodes) (name : List Label) → AreOrdered nodes → HaveIdsOf city nodes → HaveIdsOf city (without_node nodes name)
+pub ids_without : (city : Node) (nodes : Nodes) (name : List Label) → AreInNameOrder nodes → HaveIdsOf city nodes → HaveIdsOf city (without_node nodes name)
 ids_without city nodes name ordered of_city n node h = of_city n node (either _ (sym (held-without nodes name n ordered) ∙ h))
   where
     either : (b : Bool) → cond b None (held_at nodes n) ≡ Some node → held_at nodes n ≡ Some node
@@ -200,8 +200,8 @@ ids_without city nodes name ordered of_city n node h = of_city n node (either _ 
     either false k = k
 
 -- a fragment of a city, once its nodes changed
-pub part_of_city : (city : Node) (top : Label) (old new : Nodes) (now : Contents) → record { top = top; nodes = old } ≡ now → (HaveIdsOf city old → HaveIdsOf city new) → IsPartOf city now
-    → IsPartOf city (record { top = top; nodes = new })
+pub part_of_city : (city : Node) (top : Label) (old new : Nodes) (now : Contents) → record { top = top; nodes = old } ≡ now → (HaveIdsOf city old → HaveIdsOf city new) → IsFragmentOf city now
+    → IsFragmentOf city (record { top = top; nodes = new })
 part_of_city city top old new now is step h =
-    let was = subst (λ (f : Contents). IsPartOf city f) (sym is) h in
+    let was = subst (λ (f : Contents). IsFragmentOf city f) (sym is) h in
     record { top = was.top; ids = step was.ids }

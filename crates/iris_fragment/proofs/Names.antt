@@ -9,7 +9,7 @@ use Rattle.iris_base.specs.declared.name.Label.{Label}
 use Rattle.iris_base.specs.NameOrder.{label_eq, label_cmp, labels_equiv, labels_total, labels_ties, names_equiv, names_ties}
 use Rattle.iris_base.specs.Under.{Under}
 use Rattle.iris_base.proofs.Labels.{label_eq-Decides}
-use Rattle.iris_fragment.specs.Held.{one_above, cut}
+use Rattle.iris_fragment.specs.Contents.{one_above, cut}
 
 -- ---- the order of names
 

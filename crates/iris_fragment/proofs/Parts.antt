@@ -10,20 +10,20 @@ use Rattle.std.specs.Cmp.Lexicographic.{slice_cmp}
 use Rattle.std.proofs.lemmas.Map.Steps.{set_value_same}
 use Rattle.iris_base.specs.declared.name.Label.{Label}
 use Rattle.iris_base.specs.NameOrder.{label_eq, label_cmp}
-use Rattle.iris_fragment.specs.declared.held.Held.{Held}
+use Rattle.iris_fragment.specs.declared.held.HeldNode.{HeldNode}
 use Rattle.iris_fragment.specs.declared.held.Part.{Part}
 use Rattle.iris_fragment.specs.declared.held.Part.TheVariants.{Own, Copied, Bare}
 use Rattle.iris_fragment.specs.declared.piece.Full.{Full}
 use Rattle.iris_fragment.specs.declared.piece.Piece.{Piece}
-use Rattle.iris_fragment.specs.Held.{Nodes, Contents, held_at, is_held, has_place, is_listed, listed_above, listed_at}
+use Rattle.iris_fragment.specs.Contents.{Nodes, Contents, held_at, is_held, has_place, is_listed, listed_above, listed_at}
 use Rattle.std.specs.Prelude.{option_and_then, option_to_list}
 use Rattle.iris_fragment.specs.declared.piece.Level.TheVariants as level
 use Rattle.iris_fragment.specs.Usable.{is_usable, piece_of, usable_piece}
-use Rattle.iris_fragment.specs.Changes.{replaced, with_part, with_part_in, part_in, takes_any, joined, taken, taken_at, changed, changed_in}
+use Rattle.iris_fragment.specs.Changes.{replaced, with_part, with_part_in, part_in, takes_any, joined_part, after_taking, taken_at, changed, changed_in}
 use Rattle.iris_fragment.proofs.Names.{name_self, cut_last}
 use Rattle.iris_fragment.proofs.Kept.{held-replaced}
 
-same_part_in : (nodes : Nodes) (name : List Label) (o : Option Held) → held_at nodes name ≡ o → with_part_in o nodes name (part_in o) ≡ nodes
+same_part_in : (nodes : Nodes) (name : List Label) (o : Option HeldNode) → held_at nodes name ≡ o → with_part_in o nodes name (part_in o) ≡ nodes
 same_part_in nodes name None h = refl
 same_part_in nodes name (Some node) h = set_value_same _ nodes node h
 
@@ -31,12 +31,12 @@ same_part_in nodes name (Some node) h = set_value_same _ nodes node h
 pub same_part : (nodes : Nodes) (name : List Label) → with_part nodes name (part_in (held_at nodes name)) ≡ nodes
 same_part nodes name = same_part_in nodes name (held_at nodes name) refl
 
-not_joined : (part : Part) (o : Option Full) → takes_any part o ≡ false → joined part o ≡ part
+not_joined : (part : Part) (o : Option Full) → takes_any part o ≡ false → joined_part part o ≡ part
 not_joined part None h = refl
 not_joined part (Some full) h = rw h refl
 
 -- a full part that is not placed
-pub not_placed : (nodes : Nodes) (name : List Label) (o : Option Full) → takes_any (part_in (held_at nodes name)) o ≡ false → nodes ≡ with_part nodes name (joined (part_in (held_at nodes name)) o)
+pub not_placed : (nodes : Nodes) (name : List Label) (o : Option Full) → takes_any (part_in (held_at nodes name)) o ≡ false → nodes ≡ with_part nodes name (joined_part (part_in (held_at nodes name)) o)
 not_placed nodes name o h = sym (same_part nodes name) ∙ ap (λ (part : Part). with_part nodes name part) (sym (not_joined (part_in (held_at nodes name)) o h))
 
 -- ---- whole fragments
@@ -45,36 +45,36 @@ not_placed nodes name o h = sym (same_part nodes name) ∙ ap (λ (part : Part).
 pub listed_last : (f : Contents) (above : List Label) (label : Label) → is_listed f (above ++ label ∷ []) ≡ list_any (λ listed. label_eq listed label) (listed_at f above)
 listed_last f above label = ap (listed_above f) (cut_last above label)
 
-pub taken_at_held : (o : Option Held) (nodes : Nodes) (piece : Piece) → is_some o ≡ true → taken_at o nodes piece ≡ with_part nodes piece.name (joined (part_in o) piece.full)
+pub taken_at_held : (o : Option HeldNode) (nodes : Nodes) (piece : Piece) → is_some o ≡ true → taken_at o nodes piece ≡ with_part nodes piece.name (joined_part (part_in o) piece.full)
 taken_at_held None nodes piece h = absurd (cc)
 taken_at_held (Some node) nodes piece h = refl
 
 -- a piece of a held node was taken in
 pub taken_held : (top : Label) (old new : Nodes) (now : Contents) (piece : Piece) → record { top = top; nodes = old } ≡ now → has_place old piece.name ≡ true → is_held old piece.name ≡ true
-    → new ≡ with_part old piece.name (joined (part_in (held_at old piece.name)) piece.full) → record { top = top; nodes = new } ≡ taken now piece
+    → new ≡ with_part old piece.name (joined_part (part_in (held_at old piece.name)) piece.full) → record { top = top; nodes = new } ≡ after_taking now piece
 taken_held top old new now piece is place held after =
     let inside : new ≡ (if has_place old piece.name then taken_at (held_at old piece.name) old piece else old) = rw place (after ∙ sym (taken_at_held (held_at old piece.name) old piece held)) in
-    ap (λ (ns : Nodes). record { top = top; nodes = ns }) inside ∙ ap (λ (f : Contents). taken f piece) is
+    ap (λ (ns : Nodes). record { top = top; nodes = ns }) inside ∙ ap (λ (f : Contents). after_taking f piece) is
 
 -- ---- what was owned
 
-put_twice_first : (b : Bool) (test : List Label → Bool) (v w : Held) (e : List Label × Held) (es : Nodes) → test e.0 ≡ b → set_value test (set_value test es v) w ≡ set_value test es w
+put_twice_first : (b : Bool) (test : List Label → Bool) (v w : HeldNode) (e : List Label × HeldNode) (es : Nodes) → test e.0 ≡ b → set_value test (set_value test es v) w ≡ set_value test es w
     → set_value test (cond b ((e.0, v) ∷ es) (e ∷ set_value test es v)) w ≡ cond b ((e.0, w) ∷ es) (e ∷ set_value test es w)
 put_twice_first true test v w e es at h = rw at refl
 put_twice_first false test v w e es at h = rw at (ap (λ (ns : Nodes). e ∷ ns) h)
 
 -- the later of two nodes put under one name stays
-pub put_twice : (test : List Label → Bool) (v w : Held) (es : Nodes) → set_value test (set_value test es v) w ≡ set_value test es w
+pub put_twice : (test : List Label → Bool) (v w : HeldNode) (es : Nodes) → set_value test (set_value test es v) w ≡ set_value test es w
 put_twice test v w [] = refl
 put_twice test v w (e ∷ es) = put_twice_first (test e.0) test v w e es refl (put_twice test v w es)
 
-part_twice_in : (nodes : Nodes) (name : List Label) (p q : Part) (o : Option Held) → held_at nodes name ≡ o → with_part (with_part_in o nodes name p) name q ≡ with_part_in o nodes name q
-part_twice_in nodes name p q None h = ap (λ (o : Option Held). with_part_in o nodes name q) h
+part_twice_in : (nodes : Nodes) (name : List Label) (p q : Part) (o : Option HeldNode) → held_at nodes name ≡ o → with_part (with_part_in o nodes name p) name q ≡ with_part_in o nodes name q
+part_twice_in nodes name p q None h = ap (λ (o : Option HeldNode). with_part_in o nodes name q) h
 part_twice_in nodes name p q (Some node) h =
-    let put : Held = record { ids = node.ids; part = p } in
+    let put : HeldNode = record { ids = node.ids; part = p } in
     let there : held_at (replaced nodes name put) name ≡ Some put =
-    held-replaced nodes name put name (ap (λ (o : Option Held). is_some o) h) ∙ ap (λ (r : Ordering). cond (is_eq r) (Some put) (held_at nodes name)) (name_self name) in
-    ap (λ (o : Option Held). with_part_in o (replaced nodes name put) name q) there ∙ put_twice (is_at (slice_cmp label_cmp name)) put (record { ids = node.ids; part = q }) nodes
+    held-replaced nodes name put name (ap (λ (o : Option HeldNode). is_some o) h) ∙ ap (λ (r : Ordering). cond (is_eq r) (Some put) (held_at nodes name)) (name_self name) in
+    ap (λ (o : Option HeldNode). with_part_in o (replaced nodes name put) name q) there ∙ put_twice (is_at (slice_cmp label_cmp name)) put (record { ids = node.ids; part = q }) nodes
 
 pub part_twice : (nodes : Nodes) (name : List Label) (p q : Part) → with_part (with_part nodes name p) name q ≡ with_part nodes name q
 part_twice nodes name p q = part_twice_in nodes name p q (held_at nodes name) refl
@@ -84,7 +84,7 @@ pub part_then : (old mid new : Nodes) (m n name : List Label) (p q : Part) → m
 part_then old mid new m n name p q first second put then_put =
     then_put ∙ rw (put, first, second) (part_twice old name p q)
 
-changed_part_in : (change : Part → Part) (nodes : Nodes) (name : List Label) (part : Part) (o : Option Held) → option_map (λ node. node.part) o ≡ Some part
+changed_part_in : (change : Part → Part) (nodes : Nodes) (name : List Label) (part : Part) (o : Option HeldNode) → option_map (λ node. node.part) o ≡ Some part
     → changed_in o change nodes name ≡ with_part nodes name (change part)
 changed_part_in change nodes name part None h = absurd (cc)
 changed_part_in change nodes name part (Some node) h =
@@ -104,13 +104,13 @@ last_piece None = refl
 last_piece (Some piece) = refl
 
 -- one more node, whose piece is added, if it has one
-pub one_more_piece : (h : List Label × Held → Option Piece) (nodes : Nodes) (e : List Label × Held) (pieces : List Piece) (o : Option Piece) → o ≡ h e → pieces ≡ filter_map h nodes
+pub one_more_piece : (h : List Label × HeldNode → Option Piece) (nodes : Nodes) (e : List Label × HeldNode) (pieces : List Piece) (o : Option Piece) → o ≡ h e → pieces ≡ filter_map h nodes
     → pieces ++ option_to_list o ≡ filter_map h (nodes ++ e ∷ [])
 one_more_piece h nodes e pieces o is so_far =
     let last : filter_map h (e ∷ []) ≡ option_to_list o = rw (← is) (last_piece o) in
     rw so_far (sym (filter_map-append h nodes (e ∷ []) ∙ ap (λ (ps : List Piece). filter_map h nodes ++ ps) last))
 
-named_piece : (floor now : ℕ) (e : List Label × Held) (part : Part) (full : Bool) → is_usable part level.Full floor ≡ full
+named_piece : (floor now : ℕ) (e : List Label × HeldNode) (part : Part) (full : Bool) → is_usable part level.Full floor ≡ full
     → option_map (λ piece. piece.name) (option_and_then (λ level. piece_of e.0 (record { ids = e.1.ids; part = part }) level now) (if full then Some level.Full else Some level.Ids)) ≡ Some e.0
 named_piece floor now e (Own local version) true h = refl
 named_piece floor now e (Own local version) false h = refl

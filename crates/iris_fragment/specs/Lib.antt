@@ -1,7 +1,5 @@
-pub mod Held
+pub mod Contents
 pub mod Stored
 pub mod Usable
 pub mod Changes
 pub mod Shape
-pub mod Recency
-pub mod Message

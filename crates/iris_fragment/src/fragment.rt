@@ -6,24 +6,23 @@ ghost use Rattle.std.specs.Map.{keys_of};
 ghost use Rattle.iris_base.specs.NameOrder.{label_eq};
 ghost use Rattle.iris_tree.specs.Universe.{Node, label_of};
 ghost use Rattle.iris_fragment.specs.declared.status.Status.TheVariants as standing;
-ghost use Rattle.iris_fragment.specs.Held.{status, is_held, is_held_at, has_place, is_listed, listed_at};
-ghost use Rattle.iris_fragment.specs.Usable.{usable, piece_at, usable_pieces};
-ghost use Rattle.iris_fragment.specs.Changes.{taken, places, evicted, evict_answer, has_child, owned, renewed, released, version_at};
-ghost use Rattle.iris_fragment.specs.Shape.{AreOrdered, IsRooted, IsPieceOf, IsPartOf, HasShape};
+ghost use Rattle.iris_fragment.specs.Contents.{status, is_held, is_held_at, has_place, is_listed, listed_at};
+ghost use Rattle.iris_fragment.specs.Usable.{usable, held_piece, usable_pieces};
+ghost use Rattle.iris_fragment.specs.Changes.{after_taking, places_piece, evicted, evict_answer, has_child, owned, renewed, released, version_at};
+ghost use Rattle.iris_fragment.specs.Shape.{AreInNameOrder, IsRooted, IsPieceOf, IsFragmentOf, HasFragmentShape};
 
 use crate::error::EvictError;
-use crate::held::{Held, Part};
+use crate::held::{HeldNode, Part};
 use crate::nodes::Nodes;
 use crate::piece::{Full, Level, Piece};
 use crate::status::Status;
-use iris_base::{Label, Mem, Name};
-use iris_tree::Local;
+use iris_tree::{Label, Local, Mem, Name};
 use std::alloc::Global;
 use std::marker::Model;
 
 /// The nodes that one agent holds: those that it owns, copies, and nodes of which it has the ids alone.
 /// With each node that it holds it holds the node above, up to the top node. Each look-up is one by name
-/// in an ordered map. Contracts see it as the `Contents` of `specs/Held.antt`.
+/// in an ordered map. Contracts see it as the `Contents` of `specs/Contents.antt`.
 #[derive(Debug, Drop)]
 pub struct Fragment {
     alloc: Global,
@@ -33,8 +32,8 @@ pub struct Fragment {
 
 impl Model for Fragment {
     ghost use Rattle.iris_base.specs.contracts.name.Label as label_type;
-    ghost use Rattle.iris_fragment.specs.contracts.held.Held as held_type;
-    ghost use Rattle.iris_fragment.specs.Held.{Contents};
+    ghost use Rattle.iris_fragment.specs.contracts.held.HeldNode as held_type;
+    ghost use Rattle.iris_fragment.specs.Contents.{Contents};
     ghost use Rattle.iris_fragment.specs.Stored.{contents_code};
     ghost use Rattle.iris_fragment.specs.Shape.{IsRooted};
 
@@ -61,7 +60,7 @@ impl Fragment {
     /// A fragment that holds nothing, of a city whose top node has that label. It takes no memory.
     pub fn new(alloc: Global, top: Label) -> Fragment
         ensures value { result ≡ record { top = top; nodes = [] } }
-        ensures of_city { (city : Node) → top ≡ label_of city → IsPartOf city result }
+        ensures of_city { (city : Node) → top ≡ label_of city → IsFragmentOf city result }
     {
         Fragment {
             alloc,
@@ -74,9 +73,9 @@ impl Fragment {
     /// that they have there. Each call that changes a fragment keeps it so, where the pieces that it is
     /// given are of that city. This call does nothing.
     pub fn keeps_shape(&self)
-        ensures ordered { AreOrdered self.now.nodes }
+        ensures ordered { AreInNameOrder self.now.nodes }
         ensures rooted { IsRooted self.now.nodes }
-        ensures whole { (city : Node) → IsPartOf city self.now → HasShape city self.now }
+        ensures whole { (city : Node) → IsFragmentOf city self.now → HasFragmentShape city self.now }
     {
         let _ = self.nodes.as_map();
     }
@@ -129,7 +128,7 @@ impl Fragment {
     /// The piece of the node of that name at that level, with its full part at level Full alone; none where
     /// it is not held at that level. An owned value is stamped with the present moment `now`.
     pub fn piece(&self, name: &Name, level: Level, now: u64) -> Mem<Option<Piece>>
-        ensures piece { IfOk result (λ piece. piece ≡ piece_at self.now name.now level now) }
+        ensures piece { IfOk result (λ piece. piece ≡ held_piece self.now name.now level now) }
         ensures held { IfOk result (λ piece. is_some piece ≡ is_held_at self.now name.now level) }
     {
         match self.nodes.get(name.as_slice()) {
@@ -155,12 +154,12 @@ impl Fragment {
     /// Takes in a piece. One whose parent is neither held nor the document is skipped. Its ids are held
     /// from then on; those of a node that is held stay. Its full part is placed where the node is no copy
     /// yet, or where it is newer than the copy, by stamp and then by version, and never where the node is
-    /// owned. Answers whether it was placed.
+    /// owned. Returns whether it was placed.
     pub fn take_in(&mut self, piece: Piece) -> Mem<bool>
-        ensures placed { IfOk result (λ placed. placed ≡ places self.old piece) }
-        ensures ok { OnOk result (self.new ≡ taken self.old piece) }
+        ensures placed { IfOk result (λ placed. placed ≡ places_piece self.old piece) }
+        ensures ok { OnOk result (self.new ≡ after_taking self.old piece) }
         ensures err { OnErr result (self.new ≡ self.old) }
-        ensures of_city { (city : Node) → IsPieceOf city piece → IsPartOf city self.old → IsPartOf city self.new }
+        ensures of_city { (city : Node) → IsPieceOf city piece → IsFragmentOf city self.old → IsFragmentOf city self.new }
     {
         let Piece { name, ids, full } = piece;
         if !self.nodes.has_place(name.as_slice()) {
@@ -172,18 +171,18 @@ impl Fragment {
         let placed = full.is_some();
         let part = Part::new(full);
         self.nodes
-            .insert(self.alloc, name.as_slice(), Held { ids, part })?;
+            .insert(self.alloc, name.as_slice(), HeldNode { ids, part })?;
         Ok(placed)
     }
 
-    /// Evicts a complete node: its copy is dropped, and its ids too unless a child of it is held. Answers
+    /// Evicts a complete node: its copy is dropped, and its ids too unless a child of it is held. Returns
     /// the status that it has then. It takes no memory.
     pub fn evict(&mut self, name: &Name) -> Result<Status, EvictError>
-        ensures known { (city : Node) → IsPartOf city self.old → IfOk result (λ left. status self.new name.now ≡ Some left) }
+        ensures known { (city : Node) → IsFragmentOf city self.old → IfOk result (λ left. status self.new name.now ≡ Some left) }
         ensures answer { result ≡ evict_answer (status self.old name.now) (has_child self.old.nodes name.now) }
         ensures ok { OnOk result (self.new ≡ evicted self.old name.now) }
         ensures err { OnErr result (self.new ≡ self.old) }
-        ensures of_city { (city : Node) → IsPartOf city self.old → IsPartOf city self.new }
+        ensures of_city { (city : Node) → IsFragmentOf city self.old → IsFragmentOf city self.new }
     {
         match self.status(name) {
             Some(Status::Complete) => Ok(self.forget(name)),
@@ -196,8 +195,8 @@ impl Fragment {
         requires { is_held self.old.nodes name.now ≡ true }
         ensures left { result ≡ (if has_child self.old.nodes name.now then standing.IdComplete else standing.Incomplete) }
         ensures after { self.new ≡ evicted self.old name.now }
-        ensures known { (city : Node) → IsPartOf city self.old → status self.new name.now ≡ Some result }
-        ensures of_city { (city : Node) → IsPartOf city self.old → IsPartOf city self.new }
+        ensures known { (city : Node) → IsFragmentOf city self.old → status self.new name.now ≡ Some result }
+        ensures of_city { (city : Node) → IsFragmentOf city self.old → IsFragmentOf city self.new }
     {
         if self.nodes.has_child(name.as_slice()) {
             self.nodes.set_part(name.as_slice(), Part::Bare);
@@ -230,7 +229,7 @@ impl Fragment {
         requires place { has_place self.old.nodes piece.name ≡ true }
         ensures ok { OnOk result (self.new ≡ owned self.old piece) }
         ensures err { OnErr result (self.new ≡ self.old) }
-        ensures of_city { (city : Node) → IsPieceOf city piece → IsPartOf city self.old → IsPartOf city self.new }
+        ensures of_city { (city : Node) → IsPieceOf city piece → IsFragmentOf city self.old → IsFragmentOf city self.new }
     {
         let Piece { name, ids, full } = piece;
         let Some(Full { local, version, .. }) = full else {
@@ -238,16 +237,16 @@ impl Fragment {
         };
         let part = Part::Own { local, version };
         self.nodes
-            .insert(self.alloc, name.as_slice(), Held { ids, part })?;
+            .insert(self.alloc, name.as_slice(), HeldNode { ids, part })?;
         Ok(())
     }
 
     /// Gives an owned node that value, which is one version later. The node is owned, and its version is
     /// less than the greatest `u64`. It takes no memory.
     pub fn renew(&mut self, name: &Name, local: Local)
-        requires { IsSomeAnd (version_at self.old name.now) (λ version. version + 1 < 2 ^ 64) }
+        requires { IsSomeAnd (version_at self.old name.now) (λ version. version < u64.MAX) }
         ensures after { self.new ≡ renewed self.old name.now local }
-        ensures of_city { (city : Node) → IsPartOf city self.old → IsPartOf city self.new }
+        ensures of_city { (city : Node) → IsFragmentOf city self.old → IsFragmentOf city self.new }
     {
         if let Some(version) = self.nodes.version(name.as_slice()) {
             let version = version + 1;
@@ -261,7 +260,7 @@ impl Fragment {
     pub fn release(&mut self, name: &Name, now: u64)
         requires { status self.old name.now ≡ Some standing.Owned }
         ensures after { self.new ≡ released self.old name.now now }
-        ensures of_city { (city : Node) → IsPartOf city self.old → IsPartOf city self.new }
+        ensures of_city { (city : Node) → IsFragmentOf city self.old → IsFragmentOf city self.new }
     {
         let part = self.nodes.replace(name.as_slice(), Part::Bare);
         if let Some(Part::Own { local, version }) = part {

@@ -3,8 +3,7 @@ ghost use Rattle.std.specs.Prelude.{◌≡◌, IfOk};
 
 use crate::piece::{Full, Level, Piece, copy_ids};
 use crate::status::Status;
-use iris_base::{Label, Mem, Name, Sequence};
-use iris_tree::Local;
+use iris_tree::{Label, Local, Mem, Name, Sequence};
 use std::alloc::Global;
 
 /// What is held of a node beside its ids.
@@ -20,20 +19,20 @@ pub enum Part {
 
 /// A node as a fragment holds it.
 #[derive(Debug, Drop)]
-pub struct Held {
+pub struct HeldNode {
     pub ids: Sequence<Label>,
     pub part: Part,
 }
 
 impl Part {
     ghost use Rattle.iris_fragment.specs.declared.held.Part.TheVariants.{Bare};
-    ghost use Rattle.iris_fragment.specs.Held.{status_of};
-    ghost use Rattle.iris_fragment.specs.Usable.{is_usable, usable_level, full_of};
-    ghost use Rattle.iris_fragment.specs.Changes.{takes, joined, own_version};
+    ghost use Rattle.iris_fragment.specs.Contents.{part_status};
+    ghost use Rattle.iris_fragment.specs.Usable.{is_usable, usable_level, full_held};
+    ghost use Rattle.iris_fragment.specs.Changes.{takes, joined_part, own_version};
 
     // A copy, where a full part came with a piece.
     pub(crate) fn new(full: Option<Full>) -> Part
-        ensures { result ≡ joined Bare full }
+        ensures { result ≡ joined_part Bare full }
     {
         match full {
             Some(full) => Part::Copied { full },
@@ -42,7 +41,7 @@ impl Part {
     }
 
     pub(crate) fn status(&self) -> Status
-        ensures { result ≡ status_of self.now }
+        ensures { result ≡ part_status self.now }
     {
         match self {
             Part::Own { .. } => Status::Owned,
@@ -86,7 +85,7 @@ impl Part {
 
     // A copy of the full part, where there is one. An owned value is stamped with the present moment.
     pub(crate) fn full(&self, now: u64) -> Mem<Option<Full>>
-        ensures { IfOk result (λ full. full ≡ full_of self.now now) }
+        ensures { IfOk result (λ full. full ≡ full_held self.now now) }
     {
         match self {
             Part::Own { local, version } => Ok(Some(Full {
@@ -113,7 +112,7 @@ impl Part {
     }
 }
 
-impl Held {
+impl HeldNode {
     ghost use Rattle.iris_fragment.specs.Usable.{piece_of, usable_piece};
 
     // The piece of the node at that level, where it is held there.

@@ -3,23 +3,23 @@ ghost use Rattle.std.specs.Prelude.{◌≡◌, ℕ, true, false, List, Some, Non
 ghost use Rattle.std.specs.Cmp.Lexicographic.{pointwise};
 ghost use Rattle.iris_base.specs.declared.name.Label.{Label};
 ghost use Rattle.iris_base.specs.NameOrder.{label_eq};
-ghost use Rattle.iris_fragment.specs.declared.held.Held.{Held};
+ghost use Rattle.iris_fragment.specs.declared.held.HeldNode.{HeldNode};
 ghost use Rattle.iris_fragment.specs.declared.held.Part.{Part};
 ghost use Rattle.iris_fragment.specs.declared.piece.Piece.{Piece};
 ghost use Rattle.iris_fragment.specs.declared.status.Status.TheVariants as standing;
-ghost use Rattle.iris_fragment.specs.Held.{Nodes, Contents, held_at, is_held, has_place, status};
-ghost use Rattle.iris_fragment.specs.Usable.{full_of};
-ghost use Rattle.iris_fragment.specs.Changes.{with_node, without_node, with_part, part_in, taken, places};
-ghost use Rattle.iris_fragment.specs.Shape.{AreOrdered};
+ghost use Rattle.iris_fragment.specs.Contents.{Nodes, Contents, held_at, is_held, has_place, status};
+ghost use Rattle.iris_fragment.specs.Usable.{full_held};
+ghost use Rattle.iris_fragment.specs.Changes.{with_node, without_node, with_part, part_in, after_taking, places_piece};
+ghost use Rattle.iris_fragment.specs.Shape.{AreInNameOrder};
 
 /// All changes of a fragment are made of three: a node put under a name, a node left out, and another part
 /// put beside the ids of a held node. Each of them changes what is held under that name, as these laws say,
 /// and nothing under any other. This call does nothing.
 pub fn look_ups()
-    ensures put { (nodes : Nodes) (name other : List Label) (node : Held)
+    ensures put { (nodes : Nodes) (name other : List Label) (node : HeldNode)
         → held_at (with_node nodes name node) other ≡ (if pointwise label_eq name other then Some node else held_at nodes other) }
     ensures left_out { (nodes : Nodes) (name other : List Label)
-        → AreOrdered nodes
+        → AreInNameOrder nodes
         → held_at (without_node nodes name) other ≡ (if pointwise label_eq name other then None else held_at nodes other) }
     ensures replaced { (nodes : Nodes) (name other : List Label) (part : Part)
         → held_at (with_part nodes name part) other ≡ (if pointwise label_eq name other then option_map (λ node. record { ids = node.ids; part = part }) (held_at nodes name) else held_at nodes other) }
@@ -32,18 +32,18 @@ pub fn look_ups()
 pub fn taking_in()
     ensures skipped { (f : Contents) (piece : Piece)
         → has_place f.nodes piece.name ≡ false
-        → taken f piece ≡ f }
+        → after_taking f piece ≡ f }
     ensures held { (f : Contents) (piece : Piece)
         → has_place f.nodes piece.name ≡ true
-        → is_held (taken f piece).nodes piece.name ≡ true }
+        → is_held (after_taking f piece).nodes piece.name ≡ true }
     ensures owned { (f : Contents) (piece : Piece) (name : List Label)
         → status f name ≡ Some standing.Owned
-        → held_at (taken f piece).nodes name ≡ held_at f.nodes name }
+        → held_at (after_taking f piece).nodes name ≡ held_at f.nodes name }
     ensures placed { (f : Contents) (piece : Piece) (now : ℕ)
-        → places f piece ≡ true
-        → full_of (part_in (held_at (taken f piece).nodes piece.name)) now ≡ piece.full }
+        → places_piece f piece ≡ true
+        → full_held (part_in (held_at (after_taking f piece).nodes piece.name)) now ≡ piece.full }
     ensures stays { (f : Contents) (piece : Piece)
         → is_held f.nodes piece.name ≡ true
-        → places f piece ≡ false
-        → taken f piece ≡ f }
+        → places_piece f piece ≡ false
+        → after_taking f piece ≡ f }
 {}

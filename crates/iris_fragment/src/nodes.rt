@@ -1,13 +1,13 @@
 //! The held nodes, by their names.
 ghost use Rattle.std.specs.Prelude.{◌≡◌, true, [], OnOk, OnErr, option_copied, option_map};
-ghost use Rattle.iris_fragment.specs.Held.{held_at, is_held, has_place};
-ghost use Rattle.iris_fragment.specs.Stored.{named};
-ghost use Rattle.iris_fragment.specs.Changes.{with_node, without_node, with_part, part_in, takes, takes_any, joined, own_version, has_child};
-ghost use Rattle.iris_fragment.specs.Shape.{AreOrdered, IsRooted};
+ghost use Rattle.iris_fragment.specs.Contents.{held_at, is_held, has_place};
+ghost use Rattle.iris_fragment.specs.Stored.{entries_named};
+ghost use Rattle.iris_fragment.specs.Changes.{with_node, without_node, with_part, part_in, takes, takes_any, joined_part, own_version, has_child};
+ghost use Rattle.iris_fragment.specs.Shape.{AreInNameOrder, IsRooted};
 
-use crate::held::{Held, Part};
+use crate::held::{HeldNode, Part};
 use crate::piece::Full;
-use iris_base::{Label, Mem};
+use iris_tree::{Label, Mem};
 use std::alloc::Global;
 use std::collections::BTreeMap;
 use std::marker::Model;
@@ -17,7 +17,7 @@ use std::ops::Bound;
 /// The held nodes in the order of their names, each name once.
 #[derive(Debug, Drop)]
 pub(crate) struct Nodes {
-    map: BTreeMap<Vec<Label>, Held>,
+    map: BTreeMap<Vec<Label>, HeldNode>,
 }
 
 impl Model for Nodes {
@@ -27,19 +27,19 @@ impl Model for Nodes {
     ghost use Rattle.std.specs.Map.{keys_of};
     ghost use Rattle.iris_base.specs.NameOrder.{label_cmp};
     ghost use Rattle.iris_base.specs.declared.name.Label.{Label};
-    ghost use Rattle.iris_fragment.specs.declared.held.Held.{Held};
+    ghost use Rattle.iris_fragment.specs.declared.held.HeldNode.{HeldNode};
     ghost use Rattle.std.specs.Coded.{coded×, coded_list};
     ghost use Rattle.iris_base.specs.contracts.name.Label as label_type;
-    ghost use Rattle.iris_fragment.specs.contracts.held.Held as held_type;
-    ghost use Rattle.iris_fragment.specs.Stored.{named};
+    ghost use Rattle.iris_fragment.specs.contracts.held.HeldNode as held_type;
+    ghost use Rattle.iris_fragment.specs.Stored.{entries_named};
 
-    ghost Value = { List (List Label × Held) };
+    ghost Value = { List (List Label × HeldNode) };
 
     ghost coded = { coded_list (coded× (coded_list label_type.the_row.coded) held_type.the_row.coded) };
 
-    ghost view = { λ n. named n.map.entries };
+    ghost view = { λ n. entries_named n.map.entries };
 
-    ghost invariant = { λ n. IsStrictlySortedBy (slice_cmp label_cmp) (keys_of (named n.map.entries)) };
+    ghost invariant = { λ n. IsStrictlySortedBy (slice_cmp label_cmp) (keys_of (entries_named n.map.entries)) };
 }
 
 impl Nodes {
@@ -51,16 +51,16 @@ impl Nodes {
         }
     }
 
-    pub(crate) fn get(&self, name: &[Label]) -> Option<&Held>
+    pub(crate) fn get(&self, name: &[Label]) -> Option<&HeldNode>
         ensures { option_copied result ≡ held_at self.now name.now }
     {
         self.map.get(name)
     }
 
     // The nodes under lists of labels, in the order of names.
-    pub(crate) fn as_map(&self) -> &BTreeMap<Vec<Label>, Held>
-        ensures named { named result.now.entries ≡ self.now }
-        ensures ordered { AreOrdered self.now }
+    pub(crate) fn as_map(&self) -> &BTreeMap<Vec<Label>, HeldNode>
+        ensures entries_named { entries_named result.now.entries ≡ self.now }
+        ensures ordered { AreInNameOrder self.now }
     {
         &self.map
     }
@@ -89,7 +89,7 @@ impl Nodes {
     }
 
     // Puts a node under a name, also where another is.
-    pub(crate) fn insert(&mut self, alloc: Global, name: &[Label], node: Held) -> Mem<()>
+    pub(crate) fn insert(&mut self, alloc: Global, name: &[Label], node: HeldNode) -> Mem<()>
         ensures ok { OnOk result (self.new ≡ with_node self.old name.now node) }
         ensures err { OnErr result (self.new ≡ self.old) }
     {
@@ -98,7 +98,7 @@ impl Nodes {
         Ok(())
     }
 
-    // Puts that beside the ids of a held node, and answers what was there.
+    // Puts that beside the ids of a held node, and returns what was there.
     pub(crate) fn replace(&mut self, name: &[Label], part: Part) -> Option<Part>
         ensures part { result ≡ option_map (λ node. node.part) (held_at self.old name.now) }
         ensures nodes { self.new ≡ with_part self.old name.now part }
@@ -114,10 +114,11 @@ impl Nodes {
         self.replace(name, part);
     }
 
-    // Places a full part that arrives beside the ids of a held node, where it is newer. Whether it did.
+    // Places a full part that arrives beside the ids of a held node, where it is newer. Returns whether
+    // it did.
     pub(crate) fn join(&mut self, name: &[Label], full: Option<Full>) -> bool
         ensures placed { result ≡ takes_any (part_in (held_at self.old name.now)) full }
-        ensures nodes { self.new ≡ with_part self.old name.now (joined (part_in (held_at self.old name.now)) full) }
+        ensures nodes { self.new ≡ with_part self.old name.now (joined_part (part_in (held_at self.old name.now)) full) }
     {
         let Some(full) = full else {
             return false;
@@ -159,7 +160,7 @@ impl Nodes {
 
     pub(crate) fn remove(&mut self, name: &[Label])
         ensures nodes { self.new ≡ without_node self.old name.now }
-        ensures was_ordered { AreOrdered self.old }
+        ensures was_ordered { AreInNameOrder self.old }
     {
         self.map.remove(name);
     }

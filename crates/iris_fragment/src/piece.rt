@@ -1,8 +1,7 @@
 //! Pieces: what fragments give one another of single nodes.
 ghost use Rattle.std.specs.Prelude.{◌≡◌, IfOk};
 
-use iris_base::{Label, Mem, Name, Sequence};
-use iris_tree::Local;
+use iris_tree::{Label, Local, Mem, Name, Sequence};
 
 /// How much of a node is asked for or held.
 #[derive(Clone, Copy, Debug, PartialEq, Eq, PartialOrd, Ord)]

@@ -1,9 +1,9 @@
 use Rattle.std.proofs.Common.{◌≡◌, ◌∙◌, sym, ap, rules, subst, List, true, false}
 use Rattle.iris_base.specs.declared.name.Label.{Label}
 use Rattle.iris_fragment.specs.declared.held.Part.TheVariants.{Bare}
-use Rattle.iris_fragment.specs.Held.{Nodes, Contents, is_held, status}
+use Rattle.iris_fragment.specs.Contents.{Nodes, Contents, is_held, status}
 use Rattle.iris_fragment.specs.Changes.{has_child, with_part, without_node}
-use Rattle.iris_fragment.specs.Shape.{IsRooted, HaveIdsOf, IsPartOf}
+use Rattle.iris_fragment.specs.Shape.{IsRooted, HaveIdsOf, IsFragmentOf}
 use Rattle.iris_fragment.proofs.Kept.{rooted_part, rooted_without, ids_part, ids_without, part_of_city}
 use Rattle.iris_fragment.proofs.Cities.{status_bare, status_left}
 use Rattle.iris_fragment.proofs.fragment.Fragment.forget.Goals as goal
@@ -35,7 +35,7 @@ returns-then-has_child-clause-known c = λ city part.
 pub returns-clause-known : goal.returns-clause-known
 returns-clause-known c = λ city part.
     let held = subst (λ (f : Contents). is_held f.nodes c.args.name.now ≡ true) (sym c.self.view_is) c.requires in
-    let was = subst (λ (f : Contents). IsPartOf city f) (sym c.self.view_is) part in
+    let was = subst (λ (f : Contents). IsFragmentOf city f) (sym c.self.view_is) part in
     let none = subst (λ (n : List Label). has_child c.self.inside.nodes n ≡ false) c.as_slice.ensures (sym c.has_child.ensures ∙ c.if-has_child.false) in
     let after = subst (λ (n : List Label). c.remove.new.self ≡ without_node c.self.inside.nodes n) c.as_slice-2.ensures c.remove.ensures.nodes in
     ap (λ (ns : Nodes). status (record { top = c.self.inside.top; nodes = ns }) c.args.name.now) after

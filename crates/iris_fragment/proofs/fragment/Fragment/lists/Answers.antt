@@ -1,6 +1,6 @@
 use Rattle.std.proofs.Common.{◌∙◌, sym, ap, List}
 use Rattle.iris_base.specs.declared.name.Label.{Label}
-use Rattle.iris_fragment.specs.Held.{is_listed}
+use Rattle.iris_fragment.specs.Contents.{is_listed}
 use Rattle.iris_fragment.proofs.Parts.{listed_last}
 use Rattle.iris_fragment.proofs.fragment.Fragment.lists.Goals as goal
 

@@ -1,7 +1,7 @@
 use Rattle.std.proofs.Common.{◌≡◌, ◌∙◌, sym, rules, subst, Some, option_map}
-use Rattle.iris_fragment.specs.declared.held.Held.{Held}
+use Rattle.iris_fragment.specs.declared.held.HeldNode.{HeldNode}
 use Rattle.iris_fragment.specs.declared.held.Part.TheVariants.{Own, Bare}
-use Rattle.iris_fragment.specs.Held.{Nodes, held_at}
+use Rattle.iris_fragment.specs.Contents.{Nodes, held_at}
 use Rattle.iris_fragment.specs.Changes.{released_part}
 use Rattle.iris_fragment.proofs.Parts.{part_then, changed_part}
 use Rattle.iris_fragment.specs.Shape.{IsRooted, HaveIdsOf}
@@ -23,7 +23,7 @@ returns-in-Some-Own-clause-of_city c = λ city part.
 pub returns-in-Some-Own-clause-after : goal.returns-in-Some-Own-clause-after
 returns-in-Some-Own-clause-after c =
     let own = Own c.in-Some-Own.local c.in-Some-Own.version in
-    let was : option_map (λ (node : Held). node.part) (held_at c.self.inside.nodes c.args.name.now) ≡ Some own =
+    let was : option_map (λ (node : HeldNode). node.part) (held_at c.self.inside.nodes c.args.name.now) ≡ Some own =
     rw (← c.as_slice.ensures) (sym c.replace-part.ensures.part ∙ search rules) in
     changed_part (released_part c.args.now) c.self.inside.top c.self.inside.nodes c.set_part.new.self c.args.self.now c.args.name.now own c.self.view_is was
     (part_then c.self.inside.nodes c.replace-part.new.self c.set_part.new.self _ _ c.args.name.now Bare _ c.as_slice.ensures c.as_slice-in-Some-Own.ensures c.replace-part.ensures.nodes c.set_part.ensures)

@@ -1,7 +1,7 @@
 use Rattle.std.proofs.Common.{◌≡◌, sym, rules, subst, List, true, Some}
 use Rattle.iris_base.specs.declared.name.Label.{Label}
-use Rattle.iris_fragment.specs.Held.{Nodes, held_at, has_place, is_held}
-use Rattle.iris_fragment.specs.Changes.{with_part, joined, part_in}
+use Rattle.iris_fragment.specs.Contents.{Nodes, held_at, has_place, is_held}
+use Rattle.iris_fragment.specs.Changes.{with_part, joined_part, part_in}
 use Rattle.iris_fragment.specs.Shape.{IsRooted, HaveIdsOf, ids_at}
 use Rattle.iris_fragment.proofs.Kept.{rooted_part, rooted_node, ids_part, ids_node, part_of_city}
 use Rattle.iris_fragment.proofs.Parts.{taken_held}
@@ -14,7 +14,7 @@ pub returns-then-contains-clause-ok : goal.returns-then-contains-clause-ok
 returns-then-contains-clause-ok c =
     let place : has_place c.self.inside.nodes c.args.piece.name ≡ true = search rules in
     let held : is_held c.self.inside.nodes c.args.piece.name ≡ true = search rules in
-    let after = subst (λ (n : List Label). c.join.new.self ≡ with_part c.self.inside.nodes n (joined (part_in (held_at c.self.inside.nodes n)) c.args.piece.full)) c.as_slice-then-contains.ensures c.join.ensures.nodes in
+    let after = subst (λ (n : List Label). c.join.new.self ≡ with_part c.self.inside.nodes n (joined_part (part_in (held_at c.self.inside.nodes n)) c.args.piece.full)) c.as_slice-then-contains.ensures c.join.ensures.nodes in
     taken_held c.self.inside.top c.self.inside.nodes _ c.args.self.now c.args.piece c.self.view_is place held after
 
 pub returns-then-contains-clause-of_city : goal.returns-then-contains-clause-of_city

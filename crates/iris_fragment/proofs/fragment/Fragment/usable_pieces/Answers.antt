@@ -4,9 +4,9 @@ use Rattle.std.proofs.lemmas.List.{map-append}
 use Rattle.std.proofs.lemmas.Map.Iter.{iter_end}
 use Rattle.iris_fragment.specs.declared.piece.Piece.{Piece}
 use Rattle.iris_base.specs.declared.name.Label.{Label}
-use Rattle.iris_fragment.specs.declared.held.Held.{Held}
-use Rattle.iris_fragment.specs.Held.{Nodes}
-use Rattle.iris_fragment.specs.Stored.{named}
+use Rattle.iris_fragment.specs.declared.held.HeldNode.{HeldNode}
+use Rattle.iris_fragment.specs.Contents.{Nodes}
+use Rattle.iris_fragment.specs.Stored.{entries_named}
 use Rattle.iris_fragment.specs.Usable.{usable_piece, usable_pieces}
 use Rattle.iris_fragment.proofs.Parts.{one_more_piece, names_of_pieces}
 use Rattle.iris_fragment.proofs.fragment.Fragment.usable_pieces.Goals as goal
@@ -14,9 +14,9 @@ use Rattle.iris_fragment.proofs.fragment.Fragment.usable_pieces.Goals as goal
 pub loop-name-preserved : goal.loop-name-preserved
 loop-name-preserved c =
     let h = usable_piece c.args.floor c.args.now in
-    let node : List Label × Held = (c.in-Some.name.now.items, c.in-Some.node.now) in
-    let so_far = named (map deref_pair c.loop-name.yielded) in
-    let more : named (map deref_pair (c.loop-name.yielded ++ (c.in-Some.name, c.in-Some.node) ∷ [])) ≡ so_far ++ node ∷ [] = simp map-append in
+    let node : List Label × HeldNode = (c.in-Some.name.now.items, c.in-Some.node.now) in
+    let so_far = entries_named (map deref_pair c.loop-name.yielded) in
+    let more : entries_named (map deref_pair (c.loop-name.yielded ++ (c.in-Some.name, c.in-Some.node) ∷ [])) ≡ so_far ++ node ∷ [] = simp map-append in
     let gives : c.in_ok-piece.piece ≡ usable_piece c.args.floor c.args.now node = search rules in
     c.in_ok-add.ensures ∙ one_more_piece h so_far node c.loop-name.pieces.items c.in_ok-piece.piece gives c.loop-name.invariant ∙ ap (λ (ns : Nodes). filter_map h ns) (sym more)
 

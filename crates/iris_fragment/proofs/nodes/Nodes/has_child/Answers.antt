@@ -3,8 +3,8 @@ use Rattle.std.specs.Cmp.Lexicographic.{pointwise}
 use Rattle.std.proofs.lemmas.Slice.Eq.{starts_is}
 use Rattle.iris_base.specs.NameOrder.{label_eq}
 use Rattle.iris_base.proofs.Labels.{label_eq-Decides}
-use Rattle.iris_fragment.specs.declared.held.Held.{Held}
-use Rattle.iris_fragment.specs.Held.{held_at}
+use Rattle.iris_fragment.specs.declared.held.HeldNode.{HeldNode}
+use Rattle.iris_fragment.specs.Contents.{held_at}
 use Rattle.iris_fragment.proofs.Names.{name_exact}
 use Rattle.iris_fragment.proofs.Named.{held_now, no_child_behind, child_behind}
 use Rattle.iris_fragment.proofs.nodes.Nodes.has_child.Goals as goal
@@ -12,7 +12,7 @@ use Rattle.iris_fragment.proofs.nodes.Nodes.has_child.Goals as goal
 pub returns-in_default : goal.returns-in_default
 returns-in_default c =
     let none : held_at c.args.self.now c.args.name.now ≡ None = held_now c.self.inside.map.entries c.args.self.now c.args.name.now None c.self.view_is (search rules) in
-    let bad : false ≡ true = sym (ap (λ (o : Option Held). is_some o) none) ∙ c.requires.held in
+    let bad : false ≡ true = sym (ap (λ (o : Option HeldNode). is_some o) none) ∙ c.requires.held in
     absurd (cc)
 
 pub returns-in-None : goal.returns-in-None

@@ -1,6 +1,6 @@
 use Rattle.std.proofs.Common.{◌≡◌, ◌∙◌, sym, ap, rules, List, false, length, ◌==◌}
 use Rattle.iris_base.specs.declared.name.Label.{Label}
-use Rattle.iris_fragment.specs.Held.{has_place}
+use Rattle.iris_fragment.specs.Contents.{has_place}
 use Rattle.iris_fragment.proofs.Children.{place_last, stands_unless_empty}
 use Rattle.iris_fragment.proofs.nodes.Nodes.has_place.Goals as goal
 

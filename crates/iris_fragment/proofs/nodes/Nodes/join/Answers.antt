@@ -1,5 +1,5 @@
 use Rattle.std.proofs.Common.{◌≡◌, ◌∙◌, sym, refl, rules, None, false}
-use Rattle.iris_fragment.specs.Held.{held_at}
+use Rattle.iris_fragment.specs.Contents.{held_at}
 use Rattle.iris_fragment.specs.Changes.{part_in, takes_any}
 use Rattle.iris_fragment.proofs.Parts.{not_placed}
 use Rattle.iris_fragment.proofs.nodes.Nodes.join.Goals as goal
