@@ -1,9 +1,9 @@
+pub mod Consistent
 pub mod Entering
-pub mod Laws
-pub mod Linked
-pub mod Logged
+pub mod LinkSteps
+pub mod LogEntries
 pub mod Moments
 pub mod Named
-pub mod Newest
+pub mod NewestDocument
 pub mod Pushed
 pub mod Values

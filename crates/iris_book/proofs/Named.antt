@@ -13,17 +13,17 @@ use Rattle.std.proofs.lemmas.Slice.Eq.{slice_eq-Decides}
 use Rattle.iris_base.specs.declared.name.Label.{Label}
 use Rattle.iris_base.specs.NameOrder.{label_eq}
 use Rattle.iris_base.proofs.Labels.{label_eq-Decides}
-use Rattle.iris_book.specs.declared.update.Update.{Update}
-use Rattle.iris_book.specs.declared.lines.Entered.{Entered}
+use Rattle.iris_book.specs.declared.update.NodeUpdate.{NodeUpdate}
+use Rattle.iris_book.specs.declared.linked.LinkedUpdate.{LinkedUpdate}
 use Rattle.iris_book.specs.Book.{updates_of}
-use Rattle.iris_book.specs.Lines.{named, of_node, IsAt, AreOrderly}
-use Rattle.iris_book.proofs.Linked.{found}
+use Rattle.iris_book.specs.Linked.{named_update, of_node, IsAt, AreOrderly}
+use Rattle.iris_book.proofs.LinkSteps.{found}
 
 abbrev pub Names : Type 0
 Names = List (List Label)
 
-abbrev pub KnownBelow : ℕ → List Entered → Type 0
-KnownBelow nodes es = (at : ℕ) (d : Entered) → at < length es → (get_or es at d).node < nodes
+abbrev pub KnownBelow : ℕ → List LinkedUpdate → Type 0
+KnownBelow nodes es = (at : ℕ) (d : LinkedUpdate) → at < length es → (get_or es at d).node < nodes
 
 -- that number alone is one of that name
 pub record IsNumberOf (names : Names) (name : List Label) (node : ℕ) : Type 0 where
@@ -43,27 +43,27 @@ test_is names name node is other within = by_test _ _ (λ h. eq-eqb other node (
     tells (inl same) h = ap (λ k. pointwise label_eq name (get_or names k [])) same.1 ∙ is.here
     tells (inr unlike) h = absurd (cc)
 
-one_more : (b c : Bool) (e : Entered) (us : List Update) (rest : List Entered) → b ≡ c → us ≡ map (λ (x : Entered). x.update) rest
-    → cons_option (if b then Some e.update else None) us ≡ map (λ (x : Entered). x.update) (cond c (e ∷ rest) rest)
-one_more true true e us rest same h = ap (λ (ys : List Update). e.update ∷ ys) h
+one_more : (b c : Bool) (e : LinkedUpdate) (us : List NodeUpdate) (rest : List LinkedUpdate) → b ≡ c → us ≡ map (λ (x : LinkedUpdate). x.update) rest
+    → cons_option (if b then Some e.update else None) us ≡ map (λ (x : LinkedUpdate). x.update) (cond c (e ∷ rest) rest)
+one_more true true e us rest same h = ap (λ (ys : List NodeUpdate). e.update ∷ ys) h
 one_more true false e us rest same h = absurd (cc)
 one_more false true e us rest same h = absurd (cc)
 one_more false false e us rest same h = h
 
 -- the updates of a name are those of its number
-pub named_of : (names : Names) (name : List Label) (node : ℕ) (es : List Entered) → IsNumberOf names name node → KnownBelow (length names) es
-    → updates_of (map (named names) es) name ≡ map (λ (x : Entered). x.update) (of_node node es)
+pub named_of : (names : Names) (name : List Label) (node : ℕ) (es : List LinkedUpdate) → IsNumberOf names name node → KnownBelow (length names) es
+    → updates_of (map (named_update names) es) name ≡ map (λ (x : LinkedUpdate). x.update) (of_node node es)
 named_of names name node [] is known = refl
 named_of names name node (e ∷ es) is known =
     one_more _ _ e _ _ (test_is names name node is e.node (known 0 e (omega arith))) (named_of names name node es is (λ at d h. known (suc at) d (omega arith)))
 
-none_more : (b : Bool) (u : Update) (us : List Update) → b ≡ false → us ≡ [] → cons_option (if b then Some u else None) us ≡ []
+none_more : (b : Bool) (u : NodeUpdate) (us : List NodeUpdate) → b ≡ false → us ≡ [] → cons_option (if b then Some u else None) us ≡ []
 none_more true u us off h = absurd (cc)
 none_more false u us off h = h
 
 -- a name without a number has none
-pub unnamed : (names : Names) (name : List Label) (es : List Entered) → ((other : ℕ) → other < length names → pointwise label_eq name (get_or names other []) ≡ false) → KnownBelow (length names) es
-    → updates_of (map (named names) es) name ≡ []
+pub unnamed : (names : Names) (name : List Label) (es : List LinkedUpdate) → ((other : ℕ) → other < length names → pointwise label_eq name (get_or names other []) ≡ false) → KnownBelow (length names) es
+    → updates_of (map (named_update names) es) name ≡ []
 unnamed names name [] absent known = refl
 unnamed names name (e ∷ es) absent known = none_more _ e.update _ (absent e.node (known 0 e (omega arith))) (unnamed names name es absent (λ at d h. known (suc at) d (omega arith)))
 
@@ -117,50 +117,50 @@ number_absent names name h other within = any_none (pointwise label_eq name) nam
 
 -- ---- as the code has them
 
-few : (node : ℕ) (es : List Entered) → length (of_node node es) ≤ length es
-few node es = omega (arith, length-filter_both (λ (e : Entered). e.node == node) (λ (e : Entered). not (e.node == node)) (λ _. refl) es)
+few : (node : ℕ) (es : List LinkedUpdate) → length (of_node node es) ≤ length es
+few node es = omega (arith, length-filter_both (λ (e : LinkedUpdate). e.node == node) (λ (e : LinkedUpdate). not (e.node == node)) (λ _. refl) es)
 
 -- the last update of a node that was found
-pub last_here : (names : Names) (last : List ℕ) (es : List Entered) (node at : ℕ) → AreOrderly names last es → node < length names → at ≡ get_or last node at
+pub last_here : (names : Names) (last : List ℕ) (es : List LinkedUpdate) (node at : ℕ) → AreOrderly names last es → node < length names → at ≡ get_or last node at
     → (n : ℕ) × (length (of_node node es) ≡ n + 1) × IsAt es at node n
 last_here names last es node at kept within is =
     let ended = kept.linked.ends node within in
     let read : at ≡ slice_index last node = get_or_read last node at (omega (arith, kept.linked.lasts)) is 0 in
     (ended.0, ended.1, subst (λ k. IsAt es k node ended.0) (sym read) ended.2)
 
-pub count_fits : (names : Names) (last : List ℕ) (es : List Entered) (node at : ℕ) (e : Entered) → AreOrderly names last es → node < length names → at ≡ get_or last node at → e ≡ get_or es at e → e.before + 1 ≤ length es
+pub count_fits : (names : Names) (last : List ℕ) (es : List LinkedUpdate) (node at : ℕ) (e : LinkedUpdate) → AreOrderly names last es → node < length names → at ≡ get_or last node at → e ≡ get_or es at e → e.before + 1 ≤ length es
 count_fits names last es node at e kept within is read =
     let here = last_here names last es node at kept within is in
-    let before = ap (λ (x : Entered). x.before) read ∙ here.2.before_is e in
+    let before = ap (λ (x : LinkedUpdate). x.before) read ∙ here.2.before_is e in
     omega (arith, before, here.1, few node es)
 
-pub count_is : (names : Names) (last : List ℕ) (es : List Entered) (name : List Label) (node at : ℕ) (e : Entered) → AreOrderly names last es → node < length names → Some node ≡ position (pointwise label_eq name) names
-    → at ≡ get_or last node at → e ≡ get_or es at e → e.before + 1 ≡ length (updates_of (map (named names) es) name)
+pub count_is : (names : Names) (last : List ℕ) (es : List LinkedUpdate) (name : List Label) (node at : ℕ) (e : LinkedUpdate) → AreOrderly names last es → node < length names → Some node ≡ position (pointwise label_eq name) names
+    → at ≡ get_or last node at → e ≡ get_or es at e → e.before + 1 ≡ length (updates_of (map (named_update names) es) name)
 count_is names last es name node at e kept within numbered is read =
     let here = last_here names last es node at kept within is in
-    let before : e.before ≡ here.0 = ap (λ (x : Entered). x.before) read ∙ here.2.before_is e in
-    ap (λ n. n + 1) before ∙ sym here.1 ∙ sym (length-map (of_node node es) (λ (x : Entered). x.update))
-    ∙ sym (ap (λ (us : List Update). length us) (named_of names name node es (number_found names name node kept.apart numbered) kept.linked.known))
+    let before : e.before ≡ here.0 = ap (λ (x : LinkedUpdate). x.before) read ∙ here.2.before_is e in
+    ap (λ n. n + 1) before ∙ sym here.1 ∙ sym (length-map (of_node node es) (λ (x : LinkedUpdate). x.update))
+    ∙ sym (ap (λ (us : List NodeUpdate). length us) (named_of names name node es (number_found names name node kept.apart numbered) kept.linked.known))
 
-pub count_none : (names : Names) (last : List ℕ) (es : List Entered) (name : List Label) → AreOrderly names last es → list_any (pointwise label_eq name) names ≡ false → updates_of (map (named names) es) name ≡ []
+pub count_none : (names : Names) (last : List ℕ) (es : List LinkedUpdate) (name : List Label) → AreOrderly names last es → list_any (pointwise label_eq name) names ≡ false → updates_of (map (named_update names) es) name ≡ []
 count_none names last es name kept absent = unnamed names name es (number_absent names name absent) kept.linked.known
 
-pub get_is : (names : Names) (last : List ℕ) (es : List Entered) (name : List Label) (node at number : ℕ) (e : Entered) → AreOrderly names last es → Some node ≡ position (pointwise label_eq name) names
-    → IsAt es at node number → e ≡ get_or es at e → Some e.update ≡ slice_get (updates_of (map (named names) es) name) number
+pub get_is : (names : Names) (last : List ℕ) (es : List LinkedUpdate) (name : List Label) (node at number : ℕ) (e : LinkedUpdate) → AreOrderly names last es → Some node ≡ position (pointwise label_eq name) names
+    → IsAt es at node number → e ≡ get_or es at e → Some e.update ≡ slice_get (updates_of (map (named_update names) es) name) number
 get_is names last es name node at number e kept found_at here read =
-    ap (λ (x : Entered). Some x.update) read ∙ sym (ap (λ (o : Option Entered). option_map (λ (x : Entered). x.update) o) (found es at node number e kept.linked.links here))
-    ∙ sym (slice_get-map (λ (x : Entered). x.update) (of_node node es) number)
-    ∙ sym (ap (λ (us : List Update). slice_get us number) (named_of names name node es (number_found names name node kept.apart found_at) kept.linked.known))
+    ap (λ (x : LinkedUpdate). Some x.update) read ∙ sym (ap (λ (o : Option LinkedUpdate). option_map (λ (x : LinkedUpdate). x.update) o) (found es at node number e kept.linked.links here))
+    ∙ sym (slice_get-map (λ (x : LinkedUpdate). x.update) (of_node node es) number)
+    ∙ sym (ap (λ (us : List NodeUpdate). slice_get us number) (named_of names name node es (number_found names name node kept.apart found_at) kept.linked.known))
 
-pub get_past : (names : Names) (last : List ℕ) (es : List Entered) (name : List Label) (node at number : ℕ) (e : Entered) → AreOrderly names last es → node < length names → Some node ≡ position (pointwise label_eq name) names
-    → at ≡ get_or last node at → e ≡ get_or es at e → e.before < number → None ≡ slice_get (updates_of (map (named names) es) name) number
+pub get_past : (names : Names) (last : List ℕ) (es : List LinkedUpdate) (name : List Label) (node at number : ℕ) (e : LinkedUpdate) → AreOrderly names last es → node < length names → Some node ≡ position (pointwise label_eq name) names
+    → at ≡ get_or last node at → e ≡ get_or es at e → e.before < number → None ≡ slice_get (updates_of (map (named_update names) es) name) number
 get_past names last es name node at number e kept within numbered is read past =
     let count = count_is names last es name node at e kept within numbered is read in
-    sym (slice_get_past (updates_of (map (named names) es) name) number (omega (arith, count)))
+    sym (slice_get_past (updates_of (map (named_update names) es) name) number (omega (arith, count)))
 
 -- ---- one more
 
-pub named_more : (names : Names) (x : List Label) (es : List Entered) → KnownBelow (length names) es → map (named (names ++ x ∷ [])) es ≡ map (named names) es
+pub named_more : (names : Names) (x : List Label) (es : List LinkedUpdate) → KnownBelow (length names) es → map (named_update (names ++ x ∷ [])) es ≡ map (named_update names) es
 named_more names x [] known = refl
 named_more names x (e ∷ es) known =
     λ i. (get_or-append names (x ∷ []) [] e.node (known 0 e (omega arith)) i, e.update) ∷ named_more names x es (λ at d h. known (suc at) d (omega arith)) i

@@ -8,28 +8,28 @@ use Rattle.std.proofs.Math.ListN.{get_or-append}
 use Rattle.std.proofs.Math.Seq.{get_or-append_seam}
 use Rattle.iris_base.specs.declared.name.Label.{Label}
 use Rattle.iris_base.specs.NameOrder.{label_eq}
-use Rattle.iris_book.specs.declared.update.Update.{Update}
-use Rattle.iris_book.specs.declared.lines.Entered.{Entered}
+use Rattle.iris_book.specs.declared.update.NodeUpdate.{NodeUpdate}
+use Rattle.iris_book.specs.declared.linked.LinkedUpdate.{LinkedUpdate}
 use Rattle.iris_book.specs.Book.{Updates}
-use Rattle.iris_book.specs.Lines.{named, of_node, IsAt, AreOrderly}
-use Rattle.iris_book.proofs.Linked.{IsNew, at_more, at_last, are_linked_more}
+use Rattle.iris_book.specs.Linked.{named_update, of_node, IsAt, AreOrderly}
+use Rattle.iris_book.proofs.LinkSteps.{IsNew, at_more, at_last, are_linked_more}
 use Rattle.iris_book.proofs.Named.{Names, KnownBelow, IsNumberOf, name_exact, last_here, named_more}
 
-pub orderly_again : (names : Names) (last : List ℕ) (es es' : List Entered) (node p place j : ℕ) (update : Update) (e : Entered) → AreOrderly names last es → node < length names → p ≡ get_or last node p → e ≡ get_or es p e
-    → ((d : Entered) → (n : ℕ) × IsAt es j (get_or es p d).node n × (n ≤ (get_or es p d).before)) → place ≡ length es
+pub orderly_again : (names : Names) (last : List ℕ) (es es' : List LinkedUpdate) (node p place j : ℕ) (update : NodeUpdate) (e : LinkedUpdate) → AreOrderly names last es → node < length names → p ≡ get_or last node p → e ≡ get_or es p e
+    → ((d : LinkedUpdate) → (n : ℕ) × IsAt es j (get_or es p d).node n × (n ≤ (get_or es p d).before)) → place ≡ length es
     → es' ≡ es ++ (record { node = node; update = update; before = e.before + 1; earlier = p; jump = j }) ∷ [] → AreOrderly names (set last node place) es'
 orderly_again names last es es' node p place j update e kept within read read_e jumps is items =
-    subst (λ (xs : List Entered). AreOrderly names (set last node place) xs) (sym items)
+    subst (λ (xs : List LinkedUpdate). AreOrderly names (set last node place) xs) (sym items)
     record { apart = kept.apart; linked = are_linked_more (length names) (length names) last (set last node place) es x kept.linked new (omega arith) within (length-set last node place ∙ kept.linked.lasts) here others }
   where
-    x : Entered
+    x : LinkedUpdate
     x = record { node = node; update = update; before = e.before + 1; earlier = p; jump = j }
 
     end : (n : ℕ) × (length (of_node node es) ≡ n + 1) × IsAt es p node n
     end = last_here names last es node p kept within read
 
     before : e.before ≡ end.0
-    before = ap (λ (y : Entered). y.before) read_e ∙ end.2.before_is e
+    before = ap (λ (y : LinkedUpdate). y.before) read_e ∙ end.2.before_is e
 
     far : (n : ℕ) × IsAt es j (get_or es p e).node n × (n ≤ (get_or es p e).before)
     far = jumps e
@@ -53,20 +53,20 @@ orderly_again names last es es' node p place j update e kept within read read_e 
     others : (k : ℕ) → k < length names → (node ≡ k → ⊥) → (k < length names) × (slice_index (set last node place) k ≡ slice_index last k)
     others k h unlike = (h, (let ne : k ≡ node → ⊥ = λ same. unlike (sym same) in rw get_or-set_other refl))
 
-none_of_node : (n : ℕ) (es : List Entered) → KnownBelow n es → of_node n es ≡ []
+none_of_node : (n : ℕ) (es : List LinkedUpdate) → KnownBelow n es → of_node n es ≡ []
 none_of_node n [] known = refl
 none_of_node n (e ∷ es) known =
     let less : e.node < n = known 0 e (omega arith) in
     let other : e.node ≡ n → ⊥ = λ same. omega arith in
     rw (ne_eqb e.node n other) (none_of_node n es (λ at d h. known (suc at) d (omega arith)))
 
-pub orderly_first : (names names' : Names) (last last' : List ℕ) (es es' : List Entered) (node place : ℕ) (name : List Label) (update : Update) → AreOrderly names last es → IsDistinct (pointwise label_eq) names' → names' ≡ names ++ name ∷ []
+pub orderly_first : (names names' : Names) (last last' : List ℕ) (es es' : List LinkedUpdate) (node place : ℕ) (name : List Label) (update : NodeUpdate) → AreOrderly names last es → IsDistinct (pointwise label_eq) names' → names' ≡ names ++ name ∷ []
     → node ≡ length last → place ≡ length es → last' ≡ last ++ place ∷ [] → es' ≡ es ++ (record { node = node; update = update; before = 0; earlier = place; jump = place }) ∷ [] → AreOrderly names' last' es'
 orderly_first names names' last last' es es' node place name update kept apart grown is is_place lasts items =
-    subst (λ (xs : List Entered). AreOrderly names' last' xs) (sym items)
+    subst (λ (xs : List LinkedUpdate). AreOrderly names' last' xs) (sym items)
     record { apart = apart; linked = are_linked_more (length names) (length names') last last' es x kept.linked new (omega (arith, longer)) (omega (arith, longer, number)) long here others }
   where
-    x : Entered
+    x : LinkedUpdate
     x = record { node = node; update = update; before = 0; earlier = place; jump = place }
 
     number : node ≡ length names
@@ -80,7 +80,7 @@ orderly_first names names' last last' es es' node place name update kept apart g
 
     new : IsNew es x
     new = record {
-      counted = sym (ap (λ (ys : List Entered). length ys) (none_of_node node es known));
+      counted = sym (ap (λ (ys : List LinkedUpdate). length ys) (none_of_node node es known));
       earlier = λ n h. absurd (omega (arith, h));
       jump = (0, subst (λ k. IsAt (es ++ x ∷ []) k node 0) (sym is_place) (at_last es x), omega arith, λ h. absurd (omega (arith, h)));
     }
@@ -97,14 +97,14 @@ orderly_first names names' last last' es es' node place name update kept apart g
         let in_last : k < length last = omega (arith, kept.linked.lasts) in
         (small, ap (λ (ns : List ℕ). slice_index ns k) lasts ∙ get_or-append last (place ∷ []) 0 k in_last)
 
-pub updates_again : (names : Names) (es es' : List Entered) (us : Updates) (name : List Label) (x : Entered) → map (named names) es ≡ us → IsNumberOf names name x.node → es' ≡ es ++ x ∷ [] → map (named names) es' ≡ us ++ (name, x.update) ∷ []
+pub updates_again : (names : Names) (es es' : List LinkedUpdate) (us : Updates) (name : List Label) (x : LinkedUpdate) → map (named_update names) es ≡ us → IsNumberOf names name x.node → es' ≡ es ++ x ∷ [] → map (named_update names) es' ≡ us ++ (name, x.update) ∷ []
 updates_again names es es' us name x view is items =
-    ap (λ (ys : List Entered). map (named names) ys) items ∙ map-append (named names) es (x ∷ []) ∙ ap (λ (vs : Updates). vs ++ named names x ∷ []) view
+    ap (λ (ys : List LinkedUpdate). map (named_update names) ys) items ∙ map-append (named_update names) es (x ∷ []) ∙ ap (λ (vs : Updates). vs ++ named_update names x ∷ []) view
     ∙ ap (λ (n : List Label). us ++ (n, x.update) ∷ []) (sym (name_exact name (get_or names x.node []) is.here))
 
-pub updates_first : (names names' : Names) (es es' : List Entered) (us : Updates) (name : List Label) (x : Entered) → map (named names) es ≡ us → KnownBelow (length names) es → x.node ≡ length names → names' ≡ names ++ name ∷ [] → es' ≡ es ++ x ∷ []
-    → map (named names') es' ≡ us ++ (name, x.update) ∷ []
+pub updates_first : (names names' : Names) (es es' : List LinkedUpdate) (us : Updates) (name : List Label) (x : LinkedUpdate) → map (named_update names) es ≡ us → KnownBelow (length names) es → x.node ≡ length names → names' ≡ names ++ name ∷ [] → es' ≡ es ++ x ∷ []
+    → map (named_update names') es' ≡ us ++ (name, x.update) ∷ []
 updates_first names names' es es' us name x view known is grown items =
-    ap (λ (ns : Names). map (named ns) es') grown ∙ ap (λ (ys : List Entered). map (named (names ++ name ∷ [])) ys) items ∙ map-append (named (names ++ name ∷ [])) es (x ∷ [])
-    ∙ ap (λ (vs : Updates). vs ++ named (names ++ name ∷ []) x ∷ []) (named_more names name es known ∙ view)
+    ap (λ (ns : Names). map (named_update ns) es') grown ∙ ap (λ (ys : List LinkedUpdate). map (named_update (names ++ name ∷ [])) ys) items ∙ map-append (named_update (names ++ name ∷ [])) es (x ∷ [])
+    ∙ ap (λ (vs : Updates). vs ++ named_update (names ++ name ∷ []) x ∷ []) (named_more names name es known ∙ view)
     ∙ ap (λ (n : List Label). us ++ (n, x.update) ∷ []) (ap (λ k. get_or (names ++ name ∷ []) k []) is ∙ get_or-append_seam names name [] [])

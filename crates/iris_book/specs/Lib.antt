@@ -1,5 +1,5 @@
 pub mod Book
-pub mod Change
-pub mod Kept
-pub mod Lines
+pub mod Entering
+pub mod Consistent
+pub mod Linked
 pub mod Log

@@ -1,14 +1,14 @@
 -- A log: the entries without the updates themselves, which stand beside it.
 use Rattle.std.specs.Prelude.{Bool, true, false, List, [], ◌∷◌}
 use Rattle.iris_base.specs.declared.name.Label.{Label}
-use Rattle.iris_book.specs.declared.update.Update.{Update}
+use Rattle.iris_book.specs.declared.update.NodeUpdate.{NodeUpdate}
 use Rattle.iris_book.specs.declared.entry.Entry.{Entry}
 use Rattle.iris_book.specs.declared.entry.Entry.TheVariants as entry
 use Rattle.iris_book.specs.declared.log.Slot.{Slot}
 use Rattle.iris_book.specs.declared.log.Slot.TheVariants as slot
 use Rattle.iris_book.specs.Book.{Updates}
 
-abbrev pub updated : List Label × Update → Entry
+abbrev pub updated : List Label × NodeUpdate → Entry
 updated u = entry.Updated u.0 u.1.no u.1.changes u.1.local u.1.at
 
 -- the entries that a log and the updates beside it make

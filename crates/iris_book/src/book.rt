@@ -1,19 +1,17 @@
 //! The book of a city.
 ghost use Rattle.std.specs.Prelude.{◌≡◌, ◌↔◌, ◌+◌, ◌<◌, ◌≤◌, [], length, sum_by, IsTrue, IfOk, OnOk, option_copied};
-ghost use Rattle.std.specs.Prelude.{ℕ, ◌*◌, List, IfSome, slice_get};
+ghost use Rattle.std.specs.Prelude.{ℕ, List, Some, IfSome, slice_get, option_map};
 ghost use Rattle.iris_base.specs.declared.name.Label.{Label};
 ghost use Rattle.iris_tree.specs.TextLen.{saturated};
-ghost use Rattle.iris_tree.specs.LocalText.{local_text};
-ghost use Rattle.iris_tree.specs.Changes.{changes_text};
-ghost use Rattle.iris_book.specs.Book.{with_entry, updates_at, newest, value_at, latest, last_number_at, today, MayFollow, IsSound, Held, weight};
-ghost use Rattle.iris_book.specs.Change.{after_entry, updates_by, KeepsEarlier, without_answers};
+ghost use Rattle.iris_book.specs.Book.{with_entry, updates_at, update_count, value_at, latest, last_number_at, today, MayBeEntered, IsSound, HadVersion, weight};
+ghost use Rattle.iris_book.specs.Entering.{after_entry, updates_by, KeepsEarlier, without_answers};
 
 use crate::entry::Entry;
-use crate::lines::Lines;
+use crate::linked::LinkedUpdates;
 use crate::log::Slot;
-use crate::update::Update;
-use iris_base::{Mem, Name};
-use iris_tree::{Change, Local, Tree, changes_len};
+use crate::update::NodeUpdate;
+use crate::weights::{ENTRY_WEIGHT, answer_weight, update_weight};
+use iris_tree::{Local, Mem, Name, Tree};
 use std::alloc::Global;
 use std::marker::Model;
 
@@ -23,13 +21,23 @@ use std::marker::Model;
 #[derive(Drop)]
 pub struct Book {
     start: Tree,
-    lines: Lines,
+    linked: LinkedUpdates,
     log: Vec<Slot>,
     // The weights of the updates and moves together, and those of the answers.
     lasting: u64,
     answered: u64,
     // How many more entries take no memory.
     spare: usize,
+}
+
+/// What a node holds now.
+#[derive(Clone, Copy, Debug)]
+pub struct Newest<'a> {
+    pub local: &'a Local,
+    /// The number of its updates.
+    pub version: u64,
+    /// The number of its last update, as its sender gave it; 0 where it had none.
+    pub number: u64,
 }
 
 impl Model for Book {
@@ -40,7 +48,7 @@ impl Model for Book {
     ghost use Rattle.iris_book.specs.contracts.entry.Entry as entry_type;
     ghost use Rattle.iris_book.specs.Book.{Recorded, recorded_code};
     ghost use Rattle.iris_book.specs.Log.{entries_of};
-    ghost use Rattle.iris_book.specs.Kept.{IsKept};
+    ghost use Rattle.iris_book.specs.Consistent.{IsConsistent};
     ghost use Rattle.std.specs.Prelude.{◌-◌};
     ghost use Rattle.std.specs.Vec.{vec_len, vec_capacity};
 
@@ -48,25 +56,9 @@ impl Model for Book {
 
     ghost coded = { recorded_code (node_code label_type.the_row.coded local_type.the_row.coded) entry_type.the_row.coded };
 
-    ghost view = { λ b. record { history = record { start = b.start; entries = entries_of b.log.items b.lines.updates }; spare = b.spare } };
+    ghost view = { λ b. record { history = record { start = b.start; entries = entries_of b.log.items b.linked.updates }; spare = b.spare } };
 
-    ghost invariant = { λ b. IsKept b.start b.lines b.log.items (vec_capacity b.log - vec_len b.log) b.lasting b.answered b.spare };
-}
-
-// What an update weighs.
-fn update_weight(changes: &[Change], local: &Local) -> u64
-    ensures { result ≡ saturated (128 + length (changes_text changes.now) + length (local_text local.now)) }
-{
-    changes_len(changes)
-        .saturating_add(local.text_len())
-        .saturating_add(128)
-}
-
-// What an answer with so many cites weighs.
-fn answer_weight(cites: usize) -> u64
-    ensures { result ≡ saturated (128 + 64 * cites) }
-{
-    (cites as u64).saturating_mul(64).saturating_add(128)
+    ghost invariant = { λ b. IsConsistent b.start b.linked b.log.items (vec_capacity b.log - vec_len b.log) b.lasting b.answered b.spare };
 }
 
 impl Book {
@@ -77,7 +69,7 @@ impl Book {
     {
         Ok(Book {
             start: tree,
-            lines: Lines::new(alloc),
+            linked: LinkedUpdates::new(alloc),
             log: Vec::new(alloc),
             lasting: 0,
             answered: 0,
@@ -91,7 +83,7 @@ impl Book {
         ensures room { self.old.spare ≤ self.new.spare }
         ensures history { self.new.history ≡ self.old.history }
     {
-        self.lines.reserve(n)?;
+        self.linked.reserve(n)?;
         self.log.reserve(n)?;
         self.spare = self.spare.max(n);
         Ok(())
@@ -100,14 +92,23 @@ impl Book {
     /// Adds an entry at the end. It takes no memory.
     pub fn push(&mut self, entry: Entry)
         requires room { 1 ≤ self.old.spare }
-        requires follows { MayFollow self.old.history entry }
+        requires follows { MayBeEntered self.old.history entry }
         ensures entries { self.new.history ≡ with_entry self.old.history entry }
         ensures room { self.new.spare + 1 ≡ self.old.spare }
 
         // What follows from the new entry.
         ensures today { today self.new.history ≡ after_entry (today self.old.history) entry }
-        ensures newest { (name : List Label) → newest self.new.history name ≡ newest self.old.history name + updates_by entry name }
+        ensures newest { (name : List Label) → update_count self.new.history name ≡ update_count self.old.history name + updates_by entry name }
         ensures earlier { KeepsEarlier self.old.history self.new.history entry }
+    {
+        self.enter(entry);
+    }
+
+    fn enter(&mut self, entry: Entry)
+        requires room { 1 ≤ self.old.spare }
+        requires follows { MayBeEntered self.old.history entry }
+        ensures entries { self.new.history ≡ with_entry self.old.history entry }
+        ensures room { self.new.spare + 1 ≡ self.old.spare }
     {
         self.spare -= 1;
         match entry {
@@ -121,16 +122,16 @@ impl Book {
                 let weight = update_weight(changes.as_slice(), &local);
                 self.lasting = self.lasting.saturating_add(weight);
                 self.log.push_reserved(Slot::Update);
-                let update = Update {
+                let update = NodeUpdate {
                     no,
                     changes,
                     local,
                     at,
                 };
-                self.lines.push(name, update);
+                self.linked.push(name, update);
             }
             Entry::Gave { name, to, epoch } => {
-                self.lasting = self.lasting.saturating_add(128);
+                self.lasting = self.lasting.saturating_add(ENTRY_WEIGHT);
                 self.log.push_reserved(Slot::Gave { name, to, epoch });
             }
             Entry::Answered {
@@ -156,11 +157,31 @@ impl Book {
     pub fn value(&self, name: &Name, version: u64) -> Option<&Local>
         ensures { option_copied result ≡ value_at self.now.history name.now version }
     {
-        let start = self.start.find(name)?;
         match version.checked_sub(1) {
-            Some(before) => Some(&self.lines.get(name, before as usize)?.local),
-            None => Some(start.local()),
+            Some(before) => Some(&self.linked.get(name, before as usize)?.local),
+            None => Some(self.start.find(name)?.local()),
         }
+    }
+
+    /// What that node holds now, by one look-up. None exactly where no such node is.
+    pub fn newest(&self, name: &Name) -> Option<Newest<'_>>
+        ensures version { option_map (λ newest. newest.version) result ≡ latest self.now.history name.now }
+        ensures value { IfSome result (λ newest. value_at self.now.history name.now newest.version ≡ Some newest.local.now) }
+        ensures number { IfSome result (λ newest. newest.number ≡ last_number_at self.now.history name.now) }
+    {
+        if let Some(last) = self.linked.last(name) {
+            return Some(Newest {
+                local: &last.update.local,
+                version: last.before as u64 + 1,
+                number: last.update.no,
+            });
+        }
+        let start = self.start.find(name)?;
+        Some(Newest {
+            local: start.local(),
+            version: 0,
+            number: 0,
+        })
     }
 
     /// The newest version of that node, which is the number of its updates. None exactly where no such
@@ -168,25 +189,13 @@ impl Book {
     pub fn latest(&self, name: &Name) -> Option<u64>
         ensures { result ≡ latest self.now.history name.now }
     {
-        self.start.find(name)?;
-        Some(self.lines.count(name) as u64)
-    }
-
-    /// The number of the last update of that node, as its sender gave it; 0 where it has none.
-    pub fn last_number(&self, name: &Name) -> u64
-        ensures { result ≡ last_number_at self.now.history name.now }
-    {
-        let before = self.lines.count(name).saturating_sub(1);
-        match self.lines.get(name, before) {
-            Some(update) => update.no,
-            None => 0,
-        }
+        Some(self.newest(name)?.version)
     }
 
     /// Whether the node had that version at that moment, in milliseconds. At the moment of an update it
     /// had both the version before and the one after.
     pub fn held(&self, name: &Name, version: u64, stamp: u64) -> bool
-        ensures { IsTrue result ↔ Held self.now.history name.now version stamp }
+        ensures { IsTrue result ↔ HadVersion self.now.history name.now version stamp }
     {
         self.value(name, version).is_some()
             && self.had_begun(name, version, stamp)
@@ -200,7 +209,7 @@ impl Book {
         let Some(before) = version.checked_sub(1) else {
             return true;
         };
-        match self.lines.get(name, before as usize) {
+        match self.linked.get(name, before as usize) {
             Some(update) => update.at <= stamp,
             None => true,
         }
@@ -210,7 +219,7 @@ impl Book {
     fn was_not_over(&self, name: &Name, version: u64, stamp: u64) -> bool
         ensures { IsTrue result ↔ IfSome (slice_get (updates_at self.now.history name.now) version) (λ u. stamp ≤ u.at) }
     {
-        match self.lines.get(name, version as usize) {
+        match self.linked.get(name, version as usize) {
             Some(update) => stamp <= update.at,
             None => true,
         }
@@ -221,7 +230,7 @@ impl Book {
         ensures { IfOk result (λ document. document ≡ today self.now.history) }
     {
         let mut document = self.start.copy()?;
-        self.lines.put_newest(&mut document)?;
+        self.linked.put_newest(&mut document)?;
         Ok(document)
     }
 
@@ -233,8 +242,9 @@ impl Book {
         self.log.len() as u64
     }
 
-    /// What all entries weigh together, in bytes, or `u64::MAX` where it is more: an update 128 and the
-    /// texts of its changes and of its local information, a move 128, an answer 128 and 64 for each cite.
+    /// What all entries weigh together, in bytes, or `u64::MAX` where it is more: each `ENTRY_WEIGHT`, an
+    /// update the texts of its changes and of its local information besides, and an answer `CITE_WEIGHT`
+    /// for each cite.
     pub fn bytes(&self) -> u64
         ensures { result ≡ saturated (sum_by weight self.now.history.entries) }
     {

@@ -1,8 +1,7 @@
 //! The entries of a book.
 ghost use Rattle.std.specs.Prelude.{◌≡◌, IfOk};
 
-use iris_base::{AgentId, Cite, Mem, Name, Sequence};
-use iris_tree::{Change, Local};
+use iris_tree::{AgentId, Change, Cite, Local, Mem, Name, Sequence};
 use iris_xpath::Query;
 
 /// What is entered into a book.
@@ -51,11 +50,7 @@ fn copy_changes(changes: &Sequence<Change>) -> Mem<Sequence<Change>>
 fn copy_cites(cites: &Sequence<Cite>) -> Mem<Sequence<Cite>>
     ensures { IfOk result (λ copy. copy ≡ cites.now) }
 {
-    let mut copy = Sequence::new(cites.allocator());
-    for cite in cites.as_slice() {
-        copy.push(cite.copy()?)?;
-    }
-    Ok(copy)
+    cites.copy()
 }
 
 impl Entry {

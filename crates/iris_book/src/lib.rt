@@ -3,13 +3,14 @@
 
 mod book;
 mod entry;
-mod lines;
+mod linked;
 mod links;
 mod log;
 #[cfg(test)]
 mod tests;
 mod update;
+mod weights;
 
-pub use book::Book;
+pub use book::{Book, Newest};
 pub use entry::Entry;
-pub use iris_base::Cite;
+pub use weights::{CITE_WEIGHT, ENTRY_WEIGHT};

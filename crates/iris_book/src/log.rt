@@ -1,6 +1,6 @@
 //! The log of a book.
 
-use iris_base::{AgentId, Cite, Name, Sequence};
+use iris_tree::{AgentId, Cite, Name, Sequence};
 use iris_xpath::Query;
 
 /// An entry, where an update is told by its place alone: the first such slot stands for the first update,

@@ -1,11 +1,10 @@
 //! Updates of a node.
 
-use iris_base::Sequence;
-use iris_tree::{Change, Local};
+use iris_tree::{Change, Local, Sequence};
 
 /// An update of a node, as it was accepted.
 #[derive(Debug, Drop)]
-pub struct Update {
+pub struct NodeUpdate {
     /// The number that its sender gave it.
     pub no: u64,
     pub changes: Sequence<Change>,

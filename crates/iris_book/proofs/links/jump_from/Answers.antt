@@ -1,5 +1,5 @@
 use Rattle.std.proofs.Common.{get_or, arith}
-use Rattle.iris_book.proofs.Linked.{at_itself}
+use Rattle.iris_book.proofs.LinkSteps.{at_itself}
 use Rattle.iris_book.proofs.links.jump_from.Goals as goal
 
 pub returns-else-near-far : goal.returns-else-near-far

@@ -1,4 +1,4 @@
-use Rattle.iris_book.proofs.Linked.{step_jump, step_earlier}
+use Rattle.iris_book.proofs.LinkSteps.{step_jump, step_earlier}
 use Rattle.iris_book.proofs.links.step.Goals as goal
 
 pub returns-then-entered-update : goal.returns-then-entered-update

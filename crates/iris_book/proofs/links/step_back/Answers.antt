@@ -1,5 +1,5 @@
 use Rattle.std.proofs.Common.{arith}
-use Rattle.iris_book.proofs.Linked.{before_at_is}
+use Rattle.iris_book.proofs.LinkSteps.{before_at_is}
 use Rattle.iris_book.proofs.links.step_back.Goals as goal
 
 pub loop-at-smaller : goal.loop-at-smaller

@@ -5,13 +5,13 @@ use Rattle.iris_book.specs.declared.entry.Entry.{Entry}
 use Rattle.iris_book.specs.declared.entry.Entry.TheVariants as entry
 use Rattle.iris_book.specs.declared.log.Slot.{Slot}
 use Rattle.iris_book.specs.declared.log.Slot.TheVariants as slot
-use Rattle.iris_book.specs.declared.update.Update.{Update}
+use Rattle.iris_book.specs.declared.update.NodeUpdate.{NodeUpdate}
 use Rattle.std.proofs.lemmas.List.Elements.{filter-append}
 use Rattle.std.proofs.lemmas.List.Sums.{sum_by-append}
 use Rattle.iris_tree.specs.TextLen.{saturated}
 use Rattle.iris_book.specs.Book.{Updates, updates_in, weight}
-use Rattle.iris_book.specs.Kept.{lasting_weight, answered_weight}
-use Rattle.iris_book.specs.Change.{is_lasting}
+use Rattle.iris_book.specs.Consistent.{lasting_weight, answered_weight}
+use Rattle.iris_book.specs.Entering.{is_lasting}
 use Rattle.iris_book.specs.Log.{updated, entries_of, is_update, stays}
 
 abbrev pub Counted : List Slot → Updates → Type 0
@@ -32,7 +32,7 @@ updates_in-entries_of (slot.Update ∷ slots) (u ∷ us) h = ap (λ (vs : Update
 updates_in-entries_of (slot.Gave name to epoch ∷ slots) us h = updates_in-entries_of slots us h
 updates_in-entries_of (slot.Answered request query floor cites ∷ slots) us h = updates_in-entries_of slots us h
 
-pub entries_push_update : (slots : List Slot) (us : Updates) (u : List Label × Update) → Counted slots us → entries_of (slots ++ slot.Update ∷ []) (us ++ u ∷ []) ≡ entries_of slots us ++ updated u ∷ []
+pub entries_push_update : (slots : List Slot) (us : Updates) (u : List Label × NodeUpdate) → Counted slots us → entries_of (slots ++ slot.Update ∷ []) (us ++ u ∷ []) ≡ entries_of slots us ++ updated u ∷ []
 entries_push_update [] [] u h = refl
 entries_push_update [] (v ∷ us) u h = absurd (omega arith)
 entries_push_update (slot.Update ∷ slots) [] u h = absurd (omega arith)

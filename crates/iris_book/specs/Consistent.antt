@@ -5,9 +5,9 @@ use Rattle.iris_tree.specs.TextLen.{saturated}
 use Rattle.iris_book.specs.declared.entry.Entry.{Entry}
 use Rattle.iris_book.specs.declared.log.Slot.{Slot}
 use Rattle.iris_book.specs.Book.{AreSound, weight}
-use Rattle.iris_book.specs.Change.{is_lasting}
+use Rattle.iris_book.specs.Entering.{is_lasting}
 use Rattle.iris_book.specs.Log.{entries_of, is_update}
-use Rattle.iris_book.specs.Lines.{Accepted}
+use Rattle.iris_book.specs.Linked.{AcceptedUpdates}
 
 -- what the entries that last weigh together, and what the answers do
 abbrev pub lasting_weight : List Entry → ℕ
@@ -16,10 +16,10 @@ lasting_weight entries = saturated (sum_by weight (filter is_lasting entries))
 abbrev pub answered_weight : List Entry → ℕ
 answered_weight entries = saturated (sum_by weight (filter (λ e. not (is_lasting e)) entries))
 
-pub record IsKept (start : Node) (lines : Accepted) (slots : List Slot) (slot_room lasting answered spare : ℕ) : Type 0 where
-  pub sound : AreSound start lines.updates
-  pub counted : length (filter is_update slots) ≡ length lines.updates
-  pub lasting_is : lasting ≡ lasting_weight (entries_of slots lines.updates)
-  pub answered_is : answered ≡ answered_weight (entries_of slots lines.updates)
-  pub line_room : spare ≤ lines.spare
+pub record IsConsistent (start : Node) (linked : AcceptedUpdates) (slots : List Slot) (slot_room lasting answered spare : ℕ) : Type 0 where
+  pub sound : AreSound start linked.updates
+  pub counted : length (filter is_update slots) ≡ length linked.updates
+  pub lasting_is : lasting ≡ lasting_weight (entries_of slots linked.updates)
+  pub answered_is : answered ≡ answered_weight (entries_of slots linked.updates)
+  pub linked_room : spare ≤ linked.spare
   pub log_room : spare ≤ slot_room

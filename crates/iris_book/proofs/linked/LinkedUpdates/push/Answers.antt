@@ -2,10 +2,10 @@ use Rattle.std.proofs.Common.{◌≡◌, ◌<◌, ◌++◌, ◌∷◌, [], ◌�
 use Rattle.std.specs.List.{list_any}
 use Rattle.std.specs.Cmp.Lexicographic.{pointwise}
 use Rattle.iris_base.specs.NameOrder.{label_eq}
-use Rattle.iris_book.specs.Lines.{Accepted}
+use Rattle.iris_book.specs.Linked.{AcceptedUpdates}
 use Rattle.iris_book.proofs.Named.{last_here, count_fits, number_found}
 use Rattle.iris_book.proofs.Pushed.{orderly_again, orderly_first, updates_again, updates_first}
-use Rattle.iris_book.proofs.lines.Lines.push.Goals as goal
+use Rattle.iris_book.proofs.linked.LinkedUpdates.push.Goals as goal
 
 pub index-requires : goal.index-requires
 index-requires c =
@@ -33,7 +33,7 @@ invariant_of-self c =
 
 pub returns-in-Some-clause-updates : goal.returns-in-Some-clause-updates
 returns-in-Some-clause-updates c =
-    updates_again _ _ _ _ c.args.name _ (ap (λ (a : Accepted). a.updates) c.self.view_is) (number_found _ _ c.in-Some.node c.self.invariant.apart c.in-Some.ensures.index) c.push_reserved.ensures.items
+    updates_again _ _ _ _ c.args.name _ (ap (λ (a : AcceptedUpdates). a.updates) c.self.view_is) (number_found _ _ c.in-Some.node c.self.invariant.apart c.in-Some.ensures.index) c.push_reserved.ensures.items
 
 pub invariant_of-self-2 : goal.invariant_of-self-2
 invariant_of-self-2 c =
@@ -48,4 +48,4 @@ returns-clause-updates c =
     let absent : list_any (pointwise label_eq c.args.name) c.self.inside.names.keys ≡ false = search rules in
     let keys = rw c.unwrap.ensures at c.insert.ensures.keys in
     let grown : c.insert.new.self.keys ≡ c.self.inside.names.keys ++ c.args.name ∷ [] = keys ∙ ap (λ (b : Bool). if b then c.self.inside.names.keys else c.self.inside.names.keys ++ c.args.name ∷ []) absent in
-    updates_first _ _ _ _ _ c.args.name _ (ap (λ (a : Accepted). a.updates) c.self.view_is) c.self.invariant.linked.known (c.len-node.ensures ∙ c.self.inside.last.ok.0 ∙ c.self.invariant.linked.lasts) grown c.push_reserved-3.ensures.items
+    updates_first _ _ _ _ _ c.args.name _ (ap (λ (a : AcceptedUpdates). a.updates) c.self.view_is) c.self.invariant.linked.known (c.len-node.ensures ∙ c.self.inside.last.ok.0 ∙ c.self.invariant.linked.lasts) grown c.push_reserved-3.ensures.items

@@ -1,23 +1,24 @@
 //! The updates of nodes, by node and version.
 ghost use Rattle.std.specs.Prelude.{◌≡◌, ℕ, ◌+◌, ◌<◌, ◌≤◌, [], ◌∷◌, ◌++◌, length, slice_get, slice_index_or, option_copied, OnOk};
+ghost use Rattle.std.specs.Prelude.{Some, IfSome};
+ghost use Rattle.std.specs.Option.{option_map_or};
 ghost use Rattle.std.specs.Vec.{vec_len, vec_capacity};
 ghost use Rattle.indexmap.specs.IndexSet.{spare};
 ghost use Rattle.iris_book.specs.Book.{updates_of, today_of};
 
 use crate::links::{jump_from, step_back};
-use crate::update::Update;
+use crate::update::NodeUpdate;
 use indexmap::IndexSet;
-use iris_base::{Mem, Name};
-use iris_tree::Tree;
+use iris_tree::{Mem, Name, Tree};
 use std::alloc::{AllocError, Global};
 use std::marker::Model;
 
 /// An update with its place among those of its node.
 #[derive(Debug, Drop)]
-pub(crate) struct Entered {
+pub(crate) struct LinkedUpdate {
     // The number of its node.
     pub(crate) node: usize,
-    pub(crate) update: Update,
+    pub(crate) update: NodeUpdate,
     // How many updates of its node came before it.
     pub(crate) before: usize,
     // Where the one before it is, if there is one.
@@ -29,27 +30,27 @@ pub(crate) struct Entered {
 /// The updates in the order of their acceptance. One is found by the name of its node, hashed, and by
 /// links from the node's last update back to it.
 #[derive(Drop)]
-pub(crate) struct Lines {
+pub(crate) struct LinkedUpdates {
     // The names of the nodes that had updates; a node's number is its place here.
     names: IndexSet<Name>,
     // Where the last update of each node is, by its number.
     last: Vec<usize>,
-    entered: Vec<Entered>,
+    entered: Vec<LinkedUpdate>,
 }
 
-impl Model for Lines {
+impl Model for LinkedUpdates {
     ghost use Rattle.std.specs.Prelude.{ℕ, ◌-◌, min, map, length};
     ghost use Rattle.std.specs.Vec.{vec_len, vec_capacity};
     ghost use Rattle.indexmap.specs.IndexSet.{spare};
     ghost use Rattle.iris_base.specs.contracts.name.Label as label_type;
-    ghost use Rattle.iris_book.specs.contracts.update.Update as update_type;
-    ghost use Rattle.iris_book.specs.Lines.{Accepted, accepted_code, named, AreOrderly};
+    ghost use Rattle.iris_book.specs.contracts.update.NodeUpdate as update_type;
+    ghost use Rattle.iris_book.specs.Linked.{AcceptedUpdates, accepted_updates_code, named_update, AreOrderly};
 
-    ghost Value = { Accepted };
+    ghost Value = { AcceptedUpdates };
 
-    ghost coded = { accepted_code label_type.the_row.coded update_type.the_row.coded };
+    ghost coded = { accepted_updates_code label_type.the_row.coded update_type.the_row.coded };
 
-    ghost view = { λ a. record { updates = map (named a.names.keys) a.entered.items; spare = min (vec_capacity a.entered - vec_len a.entered) (min (vec_capacity a.last - vec_len a.last) (spare a.names)) } };
+    ghost view = { λ a. record { updates = map (named_update a.names.keys) a.entered.items; spare = min (vec_capacity a.entered - vec_len a.entered) (min (vec_capacity a.last - vec_len a.last) (spare a.names)) } };
 
     ghost invariant = { λ a. AreOrderly a.names.keys a.last.items a.entered.items };
 }
@@ -58,7 +59,7 @@ impl Model for Lines {
 fn reserve_all(
     names: &mut IndexSet<Name>,
     last: &mut Vec<usize>,
-    entered: &mut Vec<Entered>,
+    entered: &mut Vec<LinkedUpdate>,
     n: usize,
 ) -> Mem<()>
     ensures names { names.new.keys ≡ names.old.keys }
@@ -77,29 +78,30 @@ fn reserve_all(
     Ok(())
 }
 
-impl Lines {
-    pub(crate) fn new(alloc: Global) -> Lines
+impl LinkedUpdates {
+    pub(crate) fn new(alloc: Global) -> LinkedUpdates
         ensures { result.updates ≡ [] }
     {
-        Lines {
+        LinkedUpdates {
             names: IndexSet::new(alloc),
             last: Vec::new(alloc),
             entered: Vec::new(alloc),
         }
     }
 
-    // The number of updates of that node.
-    pub(crate) fn count(&self, name: &Name) -> usize
-        ensures { result ≡ length (updates_of self.now.updates name.now) }
+    // The last update of that node.
+    pub(crate) fn last(&self, name: &Name) -> Option<&LinkedUpdate>
+        ensures last { IfSome result (λ last. slice_get (updates_of self.now.updates name.now) last.now.before ≡ Some last.now.update) }
+        ensures count { option_map_or (λ last. last.now.before + 1) result 0 ≡ length (updates_of self.now.updates name.now) }
+        ensures fits { IfSome result (λ last. last.now.before < u64.MAX) }
     {
-        match self.names.get_index_of(name) {
-            Some(node) => self.entered[self.last[node]].before + 1,
-            None => 0,
-        }
+        let node = self.names.get_index_of(name)?;
+        let last = self.last[node];
+        Some(&self.entered[last])
     }
 
     // The update of that node with so many before it.
-    pub(crate) fn get(&self, name: &Name, number: usize) -> Option<&Update>
+    pub(crate) fn get(&self, name: &Name, number: usize) -> Option<&NodeUpdate>
         ensures { option_copied result ≡ slice_get (updates_of self.now.updates name.now) number }
     {
         let node = self.names.get_index_of(name)?;
@@ -134,7 +136,7 @@ impl Lines {
     }
 
     // Adds an update. It takes no memory.
-    pub(crate) fn push(&mut self, name: Name, update: Update)
+    pub(crate) fn push(&mut self, name: Name, update: NodeUpdate)
         requires { 0 < self.old.spare }
         ensures updates { self.new.updates ≡ self.old.updates ++ (name, update) ∷ [] }
         ensures spare { self.old.spare ≤ self.new.spare + 1 }
@@ -142,7 +144,7 @@ impl Lines {
         let place = self.entered.len();
         if let Some(node) = self.names.get_index_of(&name) {
             let earlier = self.last[node];
-            let entered = Entered {
+            let entered = LinkedUpdate {
                 node,
                 update,
                 before: self.entered[earlier].before + 1,
@@ -156,7 +158,7 @@ impl Lines {
         let node = self.last.len();
         self.names.insert(name).unwrap();
         self.last.push_reserved(place);
-        self.entered.push_reserved(Entered {
+        self.entered.push_reserved(LinkedUpdate {
             node,
             update,
             before: 0,

@@ -11,11 +11,11 @@ use Rattle.iris_tree.specs.declared.local.Local.{Local}
 use Rattle.iris_tree.specs.Universe.{Node}
 use Rattle.iris_tree.specs.Document.{with_locals, local_put, with_local}
 use Rattle.iris_tree.proofs.LocalsPut.{locals_same, locals_then}
-use Rattle.iris_book.specs.declared.update.Update.{Update}
-use Rattle.iris_book.specs.declared.lines.Entered.{Entered}
+use Rattle.iris_book.specs.declared.update.NodeUpdate.{NodeUpdate}
+use Rattle.iris_book.specs.declared.linked.LinkedUpdate.{LinkedUpdate}
 use Rattle.iris_book.specs.Book.{Updates, updates_of, left_by, today_of}
-use Rattle.iris_book.specs.Lines.{named, of_node, AreOrderly}
-use Rattle.iris_book.proofs.Linked.{found}
+use Rattle.iris_book.specs.Linked.{named_update, of_node, AreOrderly}
+use Rattle.iris_book.proofs.LinkSteps.{found}
 use Rattle.iris_book.proofs.Named.{Names, name_exact, named_of, IsNumberOf, only_one, count_none, last_here}
 use Rattle.iris_book.proofs.Values.{updates_more}
 
@@ -23,9 +23,9 @@ use Rattle.iris_book.proofs.Values.{updates_more}
 abbrev pub put_some : Names → Updates → ℕ → List Label → Local → Local
 put_some names us k n old = if list_any (pointwise label_eq n) (take k names) then left_by old (updates_of us n) else old
 
-pub left_by_last : (us : List Update) (n : ℕ) (u : Update) (old : Local) → length us ≡ n + 1 → slice_get us n ≡ Some u → left_by old us ≡ u.local
+pub left_by_last : (us : List NodeUpdate) (n : ℕ) (u : NodeUpdate) (old : Local) → length us ≡ n + 1 → slice_get us n ≡ Some u → left_by old us ≡ u.local
 left_by_last [] n u old long last = absurd (omega arith)
-left_by_last (x ∷ []) zero u old long last = let is : x ≡ u = cc in ap (λ (y : Update). y.local) is
+left_by_last (x ∷ []) zero u old long last = let is : x ≡ u = cc in ap (λ (y : NodeUpdate). y.local) is
 left_by_last (x ∷ []) (suc n) u old long last = absurd (cc)
 left_by_last (x ∷ y ∷ us) zero u old long last = absurd (omega arith)
 left_by_last (x ∷ y ∷ us) (suc n) u old long last = left_by_last (y ∷ us) n u x.local (omega arith) last
@@ -63,42 +63,42 @@ put_one names us k name local n old within is value = by (pointwise label_eq n n
     by false other = sym (ap (λ (b : Bool). if b then left_by old (updates_of us n) else old) (or_false (list_any (pointwise label_eq n) (take k names))))
 
 -- what the last update of a node left
-pub newest_local : (names : Names) (last : List ℕ) (es : List Entered) (node at : ℕ) (name : List Label) (e : Entered) → AreOrderly names last es → IsNumberOf names name node → node < length names → at ≡ get_or last node at → e ≡ get_or es at e
-    → (old : Local) → left_by old (updates_of (map (named names) es) name) ≡ e.update.local
+pub newest_local : (names : Names) (last : List ℕ) (es : List LinkedUpdate) (node at : ℕ) (name : List Label) (e : LinkedUpdate) → AreOrderly names last es → IsNumberOf names name node → node < length names → at ≡ get_or last node at → e ≡ get_or es at e
+    → (old : Local) → left_by old (updates_of (map (named_update names) es) name) ≡ e.update.local
 newest_local names last es node at name e kept is within read read_e old =
     let end = last_here names last es node at kept within read in
-    let mine : updates_of (map (named names) es) name ≡ map (λ (x : Entered). x.update) (of_node node es) = named_of names name node es is kept.linked.known in
-    let there : slice_get (map (λ (x : Entered). x.update) (of_node node es)) end.0 ≡ Some e.update =
-    slice_get-map (λ (x : Entered). x.update) (of_node node es) end.0 ∙ ap (λ (o : Option Entered). option_map (λ (x : Entered). x.update) o) (found es at node end.0 e kept.linked.links end.2)
-    ∙ ap (λ (x : Entered). Some x.update) (sym read_e) in
-    ap (λ (us : List Update). left_by old us) mine ∙ left_by_last (map (λ (x : Entered). x.update) (of_node node es)) end.0 e.update old (length-map (of_node node es) (λ (x : Entered). x.update) ∙ end.1) there
+    let mine : updates_of (map (named_update names) es) name ≡ map (λ (x : LinkedUpdate). x.update) (of_node node es) = named_of names name node es is kept.linked.known in
+    let there : slice_get (map (λ (x : LinkedUpdate). x.update) (of_node node es)) end.0 ≡ Some e.update =
+    slice_get-map (λ (x : LinkedUpdate). x.update) (of_node node es) end.0 ∙ ap (λ (o : Option LinkedUpdate). option_map (λ (x : LinkedUpdate). x.update) o) (found es at node end.0 e kept.linked.links end.2)
+    ∙ ap (λ (x : LinkedUpdate). Some x.update) (sym read_e) in
+    ap (λ (us : List NodeUpdate). left_by old us) mine ∙ left_by_last (map (λ (x : LinkedUpdate). x.update) (of_node node es)) end.0 e.update old (length-map (of_node node es) (λ (x : LinkedUpdate). x.update) ∙ end.1) there
 
 -- after all nodes
-pub put_all : (names : Names) (last : List ℕ) (es : List Entered) (k : ℕ) → AreOrderly names last es → length names ≤ k → (n : List Label) (old : Local)
-    → put_some names (map (named names) es) k n old ≡ left_by old (updates_of (map (named names) es) n)
+pub put_all : (names : Names) (last : List ℕ) (es : List LinkedUpdate) (k : ℕ) → AreOrderly names last es → length names ≤ k → (n : List Label) (old : Local)
+    → put_some names (map (named_update names) es) k n old ≡ left_by old (updates_of (map (named_update names) es) n)
 put_all names last es k kept past n old = by (list_any (pointwise label_eq n) (take k names)) refl
   where
-    by : (b : Bool) → list_any (pointwise label_eq n) (take k names) ≡ b → (if b then left_by old (updates_of (map (named names) es) n) else old) ≡ left_by old (updates_of (map (named names) es) n)
+    by : (b : Bool) → list_any (pointwise label_eq n) (take k names) ≡ b → (if b then left_by old (updates_of (map (named_update names) es) n) else old) ≡ left_by old (updates_of (map (named_update names) es) n)
     by true there = refl
     by false absent =
         let all : list_any (pointwise label_eq n) names ≡ false = ap (list_any (pointwise label_eq n)) (sym (take_all k names past)) ∙ absent in
-        sym (ap (λ (us : List Update). left_by old us) (count_none names last es n kept all))
+        sym (ap (λ (us : List NodeUpdate). left_by old us) (count_none names last es n kept all))
 
-pub today_put : (start : Node) (names : Names) (last : List ℕ) (es : List Entered) (k : ℕ) → AreOrderly names last es → length names ≤ k → with_locals start (put_some names (map (named names) es) k) ≡ today_of start (map (named names) es)
-today_put start names last es k kept past = locals_same start (put_some names (map (named names) es) k) (λ n old. left_by old (updates_of (map (named names) es) n)) (put_all names last es k kept past)
+pub today_put : (start : Node) (names : Names) (last : List ℕ) (es : List LinkedUpdate) (k : ℕ) → AreOrderly names last es → length names ≤ k → with_locals start (put_some names (map (named_update names) es) k) ≡ today_of start (map (named_update names) es)
+today_put start names last es k kept past = locals_same start (put_some names (map (named_update names) es) k) (λ n old. left_by old (updates_of (map (named_update names) es) n)) (put_all names last es k kept past)
 
 -- today's document after one more update has its local information at its node
-pub today_more : (start : Node) (us : Updates) (name : List Label) (u : Update) → today_of start (us ++ (name, u) ∷ []) ≡ with_local (today_of start us) name u.local
+pub today_more : (start : Node) (us : Updates) (name : List Label) (u : NodeUpdate) → today_of start (us ++ (name, u) ∷ []) ≡ with_local (today_of start us) name u.local
 today_more start us name u =
     locals_same start (λ n old. left_by old (updates_of (us ++ (name, u) ∷ []) n)) (λ n old. local_put name u.local n (left_by old (updates_of us n))) each
     ∙ sym (locals_then start (λ n old. left_by old (updates_of us n)) (local_put name u.local))
   where
-    by : (b : Bool) (old : Local) (xs : List Update) → left_by old (xs ++ cond b (u ∷ []) []) ≡ (if b then u.local else left_by old xs)
-    by true old xs = fold-append (λ _ (x : Update). x.local) old xs (u ∷ [])
-    by false old xs = fold-append (λ _ (x : Update). x.local) old xs []
+    by : (b : Bool) (old : Local) (xs : List NodeUpdate) → left_by old (xs ++ cond b (u ∷ []) []) ≡ (if b then u.local else left_by old xs)
+    by true old xs = fold-append (λ _ (x : NodeUpdate). x.local) old xs (u ∷ [])
+    by false old xs = fold-append (λ _ (x : NodeUpdate). x.local) old xs []
 
     each : (n : List Label) (old : Local) → left_by old (updates_of (us ++ (name, u) ∷ []) n) ≡ local_put name u.local n (left_by old (updates_of us n))
-    each n old = ap (λ (xs : List Update). left_by old xs) (updates_more us name n u) ∙ by (pointwise label_eq n name) old (updates_of us n)
+    each n old = ap (λ (xs : List NodeUpdate). left_by old xs) (updates_more us name n u) ∙ by (pointwise label_eq n name) old (updates_of us n)
 
 pub number_at : (names : Names) (node : ℕ) (name : List Label) → IsDistinct (pointwise label_eq) names → node < length names → name ≡ get_or names node name → IsNumberOf names name node
 number_at names node name apart within is =
@@ -107,7 +107,7 @@ number_at names node name apart within is =
     record { here = here; only = λ other h there. only_one names name node other apart within h here there }
 
 -- the document once one node more has its newest value
-pub put_step : (start now after : Node) (names : Names) (last : List ℕ) (es : List Entered) (us : Updates) (k at : ℕ) (name : List Label) (e : Entered) → AreOrderly names last es → map (named names) es ≡ us → k < length names
+pub put_step : (start now after : Node) (names : Names) (last : List ℕ) (es : List LinkedUpdate) (us : Updates) (k at : ℕ) (name : List Label) (e : LinkedUpdate) → AreOrderly names last es → map (named_update names) es ≡ us → k < length names
     → name ≡ get_or names k name → at ≡ get_or last k at → e ≡ get_or es at e → now ≡ with_locals start (put_some names us k) → after ≡ with_local now name e.update.local → after ≡ with_locals start (put_some names us (k + 1))
 put_step start now after names last es us k at name e kept view within is read read_e before put =
     let value : (o : Local) → left_by o (updates_of us name) ≡ e.update.local =

@@ -7,7 +7,7 @@ use Rattle.iris_tree.specs.Universe.{Node}
 use Rattle.iris_tree.specs.Document.{with_local}
 use Rattle.iris_book.specs.declared.entry.Entry.{Entry}
 use Rattle.iris_book.specs.declared.entry.Entry.TheVariants.{Updated, Gave, Answered}
-use Rattle.iris_book.specs.Book.{History, newest, value_at, Held}
+use Rattle.iris_book.specs.Book.{History, update_count, value_at, HadVersion}
 
 -- a document after an entry: an update's node has its local information
 abbrev pub after_entry : Node → Entry → Node
@@ -29,8 +29,8 @@ IsBy stamp (Answered request query floor cites) = Unit {0}
 
 -- what versions there were have their values, and what was held up to the moment of the entry still was
 pub record KeepsEarlier (old new : History) (entry : Entry) : Type 0 where
-  pub values : (name : List Label) (version : ℕ) → version ≤ newest old name → value_at new name version ≡ value_at old name version
-  pub held : (name : List Label) (version stamp : ℕ) → Held old name version stamp → IsBy stamp entry → Held new name version stamp
+  pub values : (name : List Label) (version : ℕ) → version ≤ update_count old name → value_at new name version ≡ value_at old name version
+  pub held : (name : List Label) (version stamp : ℕ) → HadVersion old name version stamp → IsBy stamp entry → HadVersion new name version stamp
 
 abbrev pub is_lasting : Entry → Bool
 is_lasting (Updated name number changes local at) = true
