@@ -20,6 +20,7 @@ pub update_entered : (slots slots' : List Slot) (us us' : Updates) (u : List Lab
 update_entered slots slots' us us' u count grown more =
     ap (λ (ss : List Slot). entries_of ss us') grown ∙ ap (λ (vs : Updates). entries_of (slots ++ slot.Update ∷ []) vs) more ∙ entries_push_update slots us u count
 
+-- and after another entry
 pub other_entered : (slots slots' : List Slot) (us : Updates) (s : Slot) (e : Entry) → IsSlotOf s e → Counted slots us → slots' ≡ slots ++ s ∷ [] → entries_of slots' us ≡ entries_of slots us ++ e ∷ []
 other_entered slots slots' us s e is count grown = ap (λ (ss : List Slot). entries_of ss us) grown ∙ entries_push slots us s e is count
 

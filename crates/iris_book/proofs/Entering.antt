@@ -20,6 +20,7 @@ by_entry (Updated name number changes local at) n = cond (pointwise label_eq n n
 by_entry (Gave name to epoch) n = []
 by_entry (Answered request query floor cites) n = []
 
+-- the updates of a node after an entry
 pub updates_entry : (h : History) (e : Entry) (n : List Label) → updates_at (with_entry h e) n ≡ updates_at h n ++ by_entry e n
 updates_entry h (Updated name number changes local at) n =
     ap (λ (us : Updates). updates_of us n) (filter_map-append update_in h.entries (Updated name number changes local at ∷ []))
@@ -50,6 +51,7 @@ counted_by (Answered request query floor cites) n = refl
 pub newest_entry : (h : History) (e : Entry) (n : List Label) → update_count (with_entry h e) n ≡ update_count h n + updates_by e n
 newest_entry h e n = ap length (updates_entry h e n) ∙ length-append (updates_at h n) (by_entry e n) ∙ ap (λ k. update_count h n + k) (counted_by e n)
 
+-- versions that there were have their values
 pub values_entry : (h : History) (e : Entry) (n : List Label) (version : ℕ) → version ≤ update_count h n → value_at (with_entry h e) n version ≡ value_at h n version
 values_entry h e n version within = value_stays h.start (updates_in h.entries) (updates_in (h.entries ++ e ∷ [])) n (by_entry e n) version (updates_entry h e n) within
 
@@ -83,6 +85,7 @@ known_within h n version there = by (cases_lt (update_count h n) version)
         absurd (cc)
     by (inr within) = within
 
+-- a version that a node had up to the moment of the entry it still had
 pub held_entry : (h : History) (e : Entry) (n : List Label) (version stamp : ℕ) → HadVersion h n version stamp → IsBy stamp e → HadVersion (with_entry h e) n version stamp
 held_entry h e n version stamp held before = record {
   there = subst (λ (o : Option Local). IsSome o) (sym (values_entry h e n version within)) held.there;
@@ -97,5 +100,6 @@ held_entry h e n version stamp held before = record {
     by (inl less) = subst (λ (o : Option NodeUpdate). IfSome o (λ u. stamp ≤ u.at)) (sym (get_left (updates_at h n) (by_entry e n) version less)) held.not_over
     by (inr past) = get_new (λ u. stamp ≤ u.at) (updates_at h n) (by_entry e n) version past (new_by e n stamp before)
 
+-- an entry keeps what was before
 pub keeps_entry : (h : History) (e : Entry) → KeepsEarlier h (with_entry h e) e
 keeps_entry h e = record { values = values_entry h e; held = held_entry h e }

@@ -16,6 +16,7 @@ before_at [] at = 0
 before_at (e ∷ es) zero = e.before
 before_at (e ∷ es) (suc at) = before_at es at
 
+-- that is what a read there says
 pub before_at_is : (es : List LinkedUpdate) (at : ℕ) (d : LinkedUpdate) → at < length es → before_at es at ≡ (get_or es at d).before
 before_at_is [] at d within = absurd (omega arith)
 before_at_is (e ∷ es) zero d within = refl
@@ -25,6 +26,7 @@ before_at_is (e ∷ es) (suc at) d within = before_at_is es at d (omega arith)
 pub stands : (es : List LinkedUpdate) (at : ℕ) (d e : LinkedUpdate) → at < length es → e ≡ get_or es at e → get_or es at d ≡ e
 stands es at d e within is = get_or_default es at d e within ∙ sym is
 
+-- an update is at its own place
 pub at_itself : (es : List LinkedUpdate) (at : ℕ) (d : LinkedUpdate) → at < length es → IsAt es at (get_or es at d).node (get_or es at d).before
 at_itself es at d within = record {
   within = within;
@@ -35,6 +37,7 @@ at_itself es at d within = record {
 linked_here : (es : List LinkedUpdate) (at : ℕ) (e : LinkedUpdate) → AllLinked es → at < length es → e ≡ get_or es at e → IsLinked es at e
 linked_here es at e links within is = subst (λ (x : LinkedUpdate). IsLinked es at x) (sym is) (links at e within)
 
+-- a step by the second link
 pub step_jump : (es : List LinkedUpdate) (at number : ℕ) (d e far : LinkedUpdate) → AllLinked es → at < length es → ((x : LinkedUpdate) → number < (get_or es at x).before) → e ≡ get_or es at e → number ≤ (get_or es e.jump far).before
     → IsStep es at (get_or es at d) number e.jump
 step_jump es at number d e far links within later is enough =
@@ -45,9 +48,11 @@ step_jump es at number d e far links within later is enough =
     subst (λ (x : LinkedUpdate). IsStep es at x number e.jump) (sym (stands es at d e within is))
     record { before = link.jump.0; here = link.jump.1; enough = omega (arith, known); fewer = link.jump.3 some }
 
+-- an update with enough before it is the same however it is read
 pub still_later : (es : List LinkedUpdate) (at number : ℕ) (d e : LinkedUpdate) → at < length es → e ≡ get_or es at e → number ≤ e.before → number ≤ (get_or es at d).before
 still_later es at number d e within is later = subst (λ (x : LinkedUpdate). number ≤ x.before) (sym (stands es at d e within is)) later
 
+-- a step to the update before
 pub step_earlier : (es : List LinkedUpdate) (at number : ℕ) (d e : LinkedUpdate) → AllLinked es → at < length es → ((x : LinkedUpdate) → number < (get_or es at x).before) → e ≡ get_or es at e → IsStep es at (get_or es at d) number e.earlier
 step_earlier es at number d e links within later is =
     let link = linked_here es at e links within is in
@@ -71,6 +76,7 @@ nth_of_node (e ∷ es) (suc at) node d within is = by (e.node == node) (nth_of_n
     by true h = h
     by false h = h
 
+-- the update with so many before it is that of its node by that number
 pub found : (es : List LinkedUpdate) (at node number : ℕ) (d : LinkedUpdate) → AllLinked es → IsAt es at node number → slice_get (of_node node es) number ≡ Some (get_or es at d)
 found es at node number d links here =
     let link = links at d here.within in
@@ -79,6 +85,7 @@ found es at node number d links here =
 
 -- ---- one more
 
+-- what is at a place stays there when one more comes
 pub at_more : (es : List LinkedUpdate) (e : LinkedUpdate) (at node before : ℕ) → IsAt es at node before → IsAt (es ++ e ∷ []) at node before
 at_more es e at node before here = record {
   within = omega (arith, length-append es (e ∷ []), here.within);
@@ -86,6 +93,7 @@ at_more es e at node before here = record {
   before_is = λ d. ap (λ (x : LinkedUpdate). x.before) (get_or-append es (e ∷ []) d at here.within) ∙ here.before_is d;
 }
 
+-- the new one is at the end
 pub at_last : (es : List LinkedUpdate) (e : LinkedUpdate) → IsAt (es ++ e ∷ []) (length es) e.node e.before
 at_last es e = record {
   within = omega (arith, length-append es (e ∷ []));
@@ -113,6 +121,7 @@ link_new es e new = record {
   jump = new.jump;
 }
 
+-- all are linked when one more is
 pub linked_more : (es : List LinkedUpdate) (e : LinkedUpdate) → AllLinked es → IsNew es e → AllLinked (es ++ e ∷ [])
 linked_more es e links new at d within = by (cases_lt at (length es))
   where
@@ -123,6 +132,7 @@ linked_more es e links new at d within = by (cases_lt at (length es))
         subst (λ k. IsLinked (es ++ e ∷ []) k (get_or (es ++ e ∷ []) k d)) (sym here)
         (subst (λ (x : LinkedUpdate). IsLinked (es ++ e ∷ []) (length es) x) (sym (get_or-append_seam es e [] d)) (link_new es e new))
 
+-- the numbers of nodes stay below their bound
 pub known_more : (es : List LinkedUpdate) (e : LinkedUpdate) (nodes nodes' : ℕ) → nodes ≤ nodes' → e.node < nodes' → ((at : ℕ) (d : LinkedUpdate) → at < length es → (get_or es at d).node < nodes)
     → (at : ℕ) (d : LinkedUpdate) → at < length (es ++ e ∷ []) → (get_or (es ++ e ∷ []) at d).node < nodes'
 known_more es e nodes nodes' le new known at d within = by (cases_lt at (length es))

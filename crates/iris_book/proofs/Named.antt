@@ -19,9 +19,11 @@ use Rattle.iris_book.specs.Book.{updates_of}
 use Rattle.iris_book.specs.Linked.{named_update, of_node, IsAt, AreOrderly}
 use Rattle.iris_book.proofs.LinkSteps.{found}
 
+-- the names of nodes, by their numbers
 abbrev pub Names : Type 0
 Names = List (List Label)
 
+-- the numbers of nodes are below that one
 abbrev pub KnownBelow : ℕ → List LinkedUpdate → Type 0
 KnownBelow nodes es = (at : ℕ) (d : LinkedUpdate) → at < length es → (get_or es at d).node < nodes
 
@@ -69,6 +71,7 @@ unnamed names name (e ∷ es) absent known = none_more _ e.update _ (absent e.no
 
 -- ---- numbers of names
 
+-- names that are alike are equal
 pub name_exact : (m n : List Label) → pointwise label_eq m n ≡ true → m ≡ n
 name_exact m n h = (slice_eq-Decides label_eq-Decides m n _ refl).0 h
 
@@ -77,6 +80,7 @@ all_apart x [] k h within = absurd (omega arith)
 all_apart x (n ∷ ns) zero h within = h.0
 all_apart x (n ∷ ns) (suc k) h within = all_apart x ns k h.1 (omega arith)
 
+-- of names that are apart one alone is like a given one
 pub only_one : (names : Names) (name : List Label) (i j : ℕ) → IsDistinct (pointwise label_eq) names → i < length names → j < length names
     → pointwise label_eq name (get_or names i []) ≡ true → pointwise label_eq name (get_or names j []) ≡ true → j ≡ i
 unfolding IsDistinct
@@ -128,12 +132,14 @@ last_here names last es node at kept within is =
     let read : at ≡ slice_index last node = get_or_read last node at (omega (arith, kept.linked.lasts)) is 0 in
     (ended.0, ended.1, subst (λ k. IsAt es k node ended.0) (sym read) ended.2)
 
+-- the number of updates of a node is no more than that of all
 pub count_fits : (names : Names) (last : List ℕ) (es : List LinkedUpdate) (node at : ℕ) (e : LinkedUpdate) → AreOrderly names last es → node < length names → at ≡ get_or last node at → e ≡ get_or es at e → e.before + 1 ≤ length es
 count_fits names last es node at e kept within is read =
     let here = last_here names last es node at kept within is in
     let before = ap (λ (x : LinkedUpdate). x.before) read ∙ here.2.before_is e in
     omega (arith, before, here.1, few node es)
 
+-- the last update of a node tells their number
 pub count_is : (names : Names) (last : List ℕ) (es : List LinkedUpdate) (name : List Label) (node at : ℕ) (e : LinkedUpdate) → AreOrderly names last es → node < length names → Some node ≡ position (pointwise label_eq name) names
     → at ≡ get_or last node at → e ≡ get_or es at e → e.before + 1 ≡ length (updates_of (map (named_update names) es) name)
 count_is names last es name node at e kept within numbered is read =
@@ -142,9 +148,11 @@ count_is names last es name node at e kept within numbered is read =
     ap (λ n. n + 1) before ∙ sym here.1 ∙ sym (length-map (of_node node es) (λ (x : LinkedUpdate). x.update))
     ∙ sym (ap (λ (us : List NodeUpdate). length us) (named_of names name node es (number_found names name node kept.apart numbered) kept.linked.known))
 
+-- a name that no look-up finds has no updates
 pub count_none : (names : Names) (last : List ℕ) (es : List LinkedUpdate) (name : List Label) → AreOrderly names last es → list_any (pointwise label_eq name) names ≡ false → updates_of (map (named_update names) es) name ≡ []
 count_none names last es name kept absent = unnamed names name es (number_absent names name absent) kept.linked.known
 
+-- the update at a place is that of its node by its number
 pub get_is : (names : Names) (last : List ℕ) (es : List LinkedUpdate) (name : List Label) (node at number : ℕ) (e : LinkedUpdate) → AreOrderly names last es → Some node ≡ position (pointwise label_eq name) names
     → IsAt es at node number → e ≡ get_or es at e → Some e.update ≡ slice_get (updates_of (map (named_update names) es) name) number
 get_is names last es name node at number e kept found_at here read =
@@ -152,6 +160,7 @@ get_is names last es name node at number e kept found_at here read =
     ∙ sym (slice_get-map (λ (x : LinkedUpdate). x.update) (of_node node es) number)
     ∙ sym (ap (λ (us : List NodeUpdate). slice_get us number) (named_of names name node es (number_found names name node kept.apart found_at) kept.linked.known))
 
+-- there is none past the last
 pub get_past : (names : Names) (last : List ℕ) (es : List LinkedUpdate) (name : List Label) (node at number : ℕ) (e : LinkedUpdate) → AreOrderly names last es → node < length names → Some node ≡ position (pointwise label_eq name) names
     → at ≡ get_or last node at → e ≡ get_or es at e → e.before < number → None ≡ slice_get (updates_of (map (named_update names) es) name) number
 get_past names last es name node at number e kept within numbered is read past =
@@ -160,6 +169,7 @@ get_past names last es name node at number e kept within numbered is read past =
 
 -- ---- one more
 
+-- a name more changes nothing of what is named
 pub named_more : (names : Names) (x : List Label) (es : List LinkedUpdate) → KnownBelow (length names) es → map (named_update (names ++ x ∷ [])) es ≡ map (named_update names) es
 named_more names x [] known = refl
 named_more names x (e ∷ es) known =

@@ -23,6 +23,7 @@ use Rattle.iris_book.proofs.Values.{updates_more}
 abbrev pub put_some : Names → Updates → ℕ → List Label → Local → Local
 put_some names us k n old = if list_any (pointwise label_eq n) (take k names) then left_by old (updates_of us n) else old
 
+-- what the last update left
 pub left_by_last : (us : List NodeUpdate) (n : ℕ) (u : NodeUpdate) (old : Local) → length us ≡ n + 1 → slice_get us n ≡ Some u → left_by old us ≡ u.local
 left_by_last [] n u old long last = absurd (omega arith)
 left_by_last (x ∷ []) zero u old long last = let is : x ≡ u = cc in ap (λ (y : NodeUpdate). y.local) is
@@ -84,6 +85,7 @@ put_all names last es k kept past n old = by (list_any (pointwise label_eq n) (t
         let all : list_any (pointwise label_eq n) names ≡ false = ap (list_any (pointwise label_eq n)) (sym (take_all k names past)) ∙ absent in
         sym (ap (λ (us : List NodeUpdate). left_by old us) (count_none names last es n kept all))
 
+-- today's document, once all nodes were put
 pub today_put : (start : Node) (names : Names) (last : List ℕ) (es : List LinkedUpdate) (k : ℕ) → AreOrderly names last es → length names ≤ k → with_locals start (put_some names (map (named_update names) es) k) ≡ today_of start (map (named_update names) es)
 today_put start names last es k kept past = locals_same start (put_some names (map (named_update names) es) k) (λ n old. left_by old (updates_of (map (named_update names) es) n)) (put_all names last es k kept past)
 
@@ -100,6 +102,7 @@ today_more start us name u =
     each : (n : List Label) (old : Local) → left_by old (updates_of (us ++ (name, u) ∷ []) n) ≡ local_put name u.local n (left_by old (updates_of us n))
     each n old = ap (λ (xs : List NodeUpdate). left_by old xs) (updates_more us name n u) ∙ by (pointwise label_eq n name) old (updates_of us n)
 
+-- the number of a name that is at a place
 pub number_at : (names : Names) (node : ℕ) (name : List Label) → IsDistinct (pointwise label_eq) names → node < length names → name ≡ get_or names node name → IsNumberOf names name node
 number_at names node name apart within is =
     let same : name ≡ get_or names node [] = is ∙ get_or_default names node name [] within in

@@ -15,6 +15,7 @@ use Rattle.iris_book.specs.Linked.{named_update, of_node, IsAt, AreOrderly}
 use Rattle.iris_book.proofs.LinkSteps.{IsNew, at_more, at_last, are_linked_more}
 use Rattle.iris_book.proofs.Named.{Names, KnownBelow, IsNumberOf, name_exact, last_here, named_more}
 
+-- an update of a node that had one keeps all in order
 pub orderly_again : (names : Names) (last : List ℕ) (es es' : List LinkedUpdate) (node p place j : ℕ) (update : NodeUpdate) (e : LinkedUpdate) → AreOrderly names last es → node < length names → p ≡ get_or last node p → e ≡ get_or es p e
     → ((d : LinkedUpdate) → (n : ℕ) × IsAt es j (get_or es p d).node n × (n ≤ (get_or es p d).before)) → place ≡ length es
     → es' ≡ es ++ (record { node = node; update = update; before = e.before + 1; earlier = p; jump = j }) ∷ [] → AreOrderly names (set last node place) es'
@@ -60,6 +61,7 @@ none_of_node n (e ∷ es) known =
     let other : e.node ≡ n → ⊥ = λ same. omega arith in
     rw (ne_eqb e.node n other) (none_of_node n es (λ at d h. known (suc at) d (omega arith)))
 
+-- so does the first of a node
 pub orderly_first : (names names' : Names) (last last' : List ℕ) (es es' : List LinkedUpdate) (node place : ℕ) (name : List Label) (update : NodeUpdate) → AreOrderly names last es → IsDistinct (pointwise label_eq) names' → names' ≡ names ++ name ∷ []
     → node ≡ length last → place ≡ length es → last' ≡ last ++ place ∷ [] → es' ≡ es ++ (record { node = node; update = update; before = 0; earlier = place; jump = place }) ∷ [] → AreOrderly names' last' es'
 orderly_first names names' last last' es es' node place name update kept apart grown is is_place lasts items =
@@ -97,11 +99,13 @@ orderly_first names names' last last' es es' node place name update kept apart g
         let in_last : k < length last = omega (arith, kept.linked.lasts) in
         (small, ap (λ (ns : List ℕ). slice_index ns k) lasts ∙ get_or-append last (place ∷ []) 0 k in_last)
 
+-- it is the last of the updates
 pub updates_again : (names : Names) (es es' : List LinkedUpdate) (us : Updates) (name : List Label) (x : LinkedUpdate) → map (named_update names) es ≡ us → IsNumberOf names name x.node → es' ≡ es ++ x ∷ [] → map (named_update names) es' ≡ us ++ (name, x.update) ∷ []
 updates_again names es es' us name x view is items =
     ap (λ (ys : List LinkedUpdate). map (named_update names) ys) items ∙ map-append (named_update names) es (x ∷ []) ∙ ap (λ (vs : Updates). vs ++ named_update names x ∷ []) view
     ∙ ap (λ (n : List Label). us ++ (n, x.update) ∷ []) (sym (name_exact name (get_or names x.node []) is.here))
 
+-- and so is that
 pub updates_first : (names names' : Names) (es es' : List LinkedUpdate) (us : Updates) (name : List Label) (x : LinkedUpdate) → map (named_update names) es ≡ us → KnownBelow (length names) es → x.node ≡ length names → names' ≡ names ++ name ∷ [] → es' ≡ es ++ x ∷ []
     → map (named_update names') es' ≡ us ++ (name, x.update) ∷ []
 updates_first names names' es es' us name x view known is grown items =

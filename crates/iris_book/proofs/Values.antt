@@ -28,6 +28,7 @@ first_is xs n h = ap (λ (b : Bool). if b then Some (take n xs) else None) (le-l
 take_one_more : (xs : List NodeUpdate) (n : ℕ) (x : NodeUpdate) → slice_get xs n ≡ Some x → take (n + 1) xs ≡ take n xs ++ x ∷ []
 take_one_more xs n x h = take_more xs n x (slice_get_within xs n x h) ∙ ap (λ (y : NodeUpdate). take n xs ++ y ∷ []) (get_or_from_slice_get xs n x x h)
 
+-- one more list of changes
 pub changed_by-push : (l : Local) (us : List NodeUpdate) (u : NodeUpdate) → changed_by l (us ++ u ∷ []) ≡ option_and_then (λ c. result_ok (apply_changes c u.changes)) (changed_by l us)
 changed_by-push l [] u = last (result_ok (apply_changes l u.changes))
   where
@@ -48,6 +49,7 @@ slice_get_some (x ∷ xs) (suc n) h = slice_get_some xs n (omega arith)
 
 -- ---- one more update
 
+-- the updates of a node after one more update
 pub updates_more : (us : Updates) (name n : List Label) (u : NodeUpdate) → updates_of (us ++ (name, u) ∷ []) n ≡ updates_of us n ++ cond (pointwise label_eq n name) (u ∷ []) []
 updates_more us name n u = filter_map-append (if_of n) us ((name, u) ∷ []) ∙ ap (λ (xs : List NodeUpdate). updates_of us n ++ xs) (by (pointwise label_eq n name))
   where
@@ -104,6 +106,7 @@ value_past start us n version past = by (local_at start n) (ap (λ (b : Bool). i
     by None h = refl
     by (Some l) h = ap (λ (x : Option (List NodeUpdate)). option_and_then (changed_by l) x) h
 
+-- without the update that makes a version there is no such version
 pub value_absent : (start : Node) (us : Updates) (n : List Label) (version : ℕ) → slice_get (updates_of us n) version ≡ None → value_after start us n (version + 1) ≡ None
 value_absent start us n version none = by (cases_lt version (length (updates_of us n)))
   where
@@ -114,6 +117,7 @@ value_absent start us n version none = by (cases_lt version (length (updates_of 
         absurd (cc)
     by (inr past) = value_past start us n (version + 1) (omega arith)
 
+-- without a node there is none
 pub value_nowhere : (start : Node) (us : Updates) (n : List Label) (version : ℕ) → local_at start n ≡ None → value_after start us n version ≡ None
 value_nowhere start us n version none = ap (λ (o : Option Local). option_and_then (λ local. option_and_then (changed_by local) (first_of version (updates_of us n))) o) none
 
@@ -177,6 +181,7 @@ number_nowhere h n sound none = by (slice_get (updates_at h n) (update_count h n
 
 -- ---- soundness
 
+-- an update makes the next version of that one
 abbrev pub IsMade : Node → Updates → List Label → ℕ → NodeUpdate → Type 0
 IsMade start us n version u = (old : Local) × (value_after start us n version ≡ Some old) × (apply_changes old u.changes ≡ Ok u.local)
 
@@ -226,6 +231,7 @@ values_more start us name u sound next n version v there = by (pointwise label_e
         slice_get_within (updates_of us n) version v (ap (λ (xs : List NodeUpdate). slice_get xs version) (sym (grows ∙ append-nil (updates_of us n))) ∙ there) in
         old_one [] grows within
 
+-- one more update that may come next leaves them sound
 pub sound_more : (start : Node) (us : Updates) (name : List Label) (u : NodeUpdate) → AreSound start us → IsNext start us name u → AreSound start (us ++ (name, u) ∷ [])
 sound_more start us name u sound next = record {
   values = values_more start us name u sound next;

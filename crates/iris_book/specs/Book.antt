@@ -46,6 +46,7 @@ with_entry h entry = record h { entries = h.entries ++ entry ∷ [] }
 abbrev pub Updates : Type 0
 Updates = List (List Label × NodeUpdate)
 
+-- the update that an entry is, with the name of its node
 abbrev pub update_in : Entry → Option (List Label × NodeUpdate)
 update_in (Updated name number changes local at) = Some (name, record { no = number; changes = changes; local = local; at = at })
 update_in (Gave name to epoch) = None
@@ -55,6 +56,7 @@ update_in (Answered request query floor cites) = None
 abbrev pub updates_in : List Entry → Updates
 updates_in entries = filter_map update_in entries
 
+-- the update, where it is of that node
 abbrev pub if_of : List Label → List Label × NodeUpdate → Option NodeUpdate
 if_of name u = if pointwise label_eq name u.0 then Some u.1 else None
 
@@ -85,6 +87,7 @@ first_of n xs = if nat_le n (length xs) then Some (take n xs) else None
 abbrev pub value_after : Node → Updates → List Label → ℕ → Option Local
 value_after start us name version = option_and_then (λ local. option_and_then (changed_by local) (first_of version (updates_of us name))) (local_at start name)
 
+-- the value of a node after so many of its updates
 abbrev pub value_at : History → List Label → ℕ → Option Local
 value_at h name version = value_after h.start (updates_in h.entries) name version
 
@@ -104,6 +107,7 @@ left_by old us = fold (λ _ u. u.local) old us
 abbrev pub today_of : Node → Updates → Node
 today_of start us = with_locals start (λ name old. left_by old (updates_of us name))
 
+-- the newest document
 abbrev pub today : History → Node
 today h = today_of h.start (updates_in h.entries)
 
@@ -126,6 +130,7 @@ pub record AreSound (start : Node) (us : Updates) : Type 0 where
       → (old : Local) × (value_after start us name version ≡ Some old) × (apply_changes old u.changes ≡ Ok u.local)
   pub moments : IsNonDecreasingBy (λ u. u.1.at) us
 
+-- the same of the updates of a history
 abbrev pub IsSound : History → Type 0
 IsSound h = AreSound h.start (updates_in h.entries)
 

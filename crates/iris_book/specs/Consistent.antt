@@ -9,13 +9,15 @@ use Rattle.iris_book.specs.Entering.{is_lasting}
 use Rattle.iris_book.specs.Log.{entries_of, is_update}
 use Rattle.iris_book.specs.Linked.{AcceptedUpdates}
 
--- what the entries that last weigh together, and what the answers do
+-- what the entries that last weigh together
 abbrev pub lasting_weight : List Entry → ℕ
 lasting_weight entries = saturated (sum_by weight (filter is_lasting entries))
 
+-- what the answers weigh together
 abbrev pub answered_weight : List Entry → ℕ
 answered_weight entries = saturated (sum_by weight (filter (λ e. not (is_lasting e)) entries))
 
+-- the parts of a book agree: the updates are sound, the log has a slot for each, the weights are kept, and there is room
 pub record IsConsistent (start : Node) (linked : AcceptedUpdates) (slots : List Slot) (slot_room lasting answered spare : ℕ) : Type 0 where
   pub sound : AreSound start linked.updates
   pub counted : length (filter is_update slots) ≡ length linked.updates

@@ -32,6 +32,7 @@ pub record KeepsEarlier (old new : History) (entry : Entry) : Type 0 where
   pub values : (name : List Label) (version : ℕ) → version ≤ update_count old name → value_at new name version ≡ value_at old name version
   pub held : (name : List Label) (version stamp : ℕ) → HadVersion old name version stamp → IsBy stamp entry → HadVersion new name version stamp
 
+-- whether an entry is no answer
 abbrev pub is_lasting : Entry → Bool
 is_lasting (Updated name number changes local at) = true
 is_lasting (Gave name to epoch) = true

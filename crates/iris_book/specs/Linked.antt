@@ -46,6 +46,7 @@ pub record IsLinked (es : List LinkedUpdate) (place : ℕ) (e : LinkedUpdate) : 
   pub earlier : (n : ℕ) → e.before ≡ n + 1 → IsAt es e.earlier e.node n
   pub jump : (n : ℕ) × IsAt es e.jump e.node n × (n ≤ e.before) × (0 < e.before → n < e.before)
 
+-- all are linked to those before them
 abbrev pub AllLinked : List LinkedUpdate → Type 0
 AllLinked es = (place : ℕ) (d : LinkedUpdate) → place < length es → IsLinked es place (slice_index_or es place d)
 

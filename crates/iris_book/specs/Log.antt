@@ -8,6 +8,7 @@ use Rattle.iris_book.specs.declared.log.Slot.{Slot}
 use Rattle.iris_book.specs.declared.log.Slot.TheVariants as slot
 use Rattle.iris_book.specs.Book.{Updates}
 
+-- an update as an entry
 abbrev pub updated : List Label × NodeUpdate → Entry
 updated u = entry.Updated u.0 u.1.no u.1.changes u.1.local u.1.at
 
@@ -19,6 +20,7 @@ entries_of (slot.Update ∷ slots) (u ∷ us) = updated u ∷ entries_of slots u
 entries_of (slot.Gave name to epoch ∷ slots) us = entry.Gave name to epoch ∷ entries_of slots us
 entries_of (slot.Answered request query floor cites ∷ slots) us = entry.Answered request query floor cites ∷ entries_of slots us
 
+-- whether the slot is that of an update
 abbrev pub is_update : Slot → Bool
 is_update slot.Update = true
 is_update (slot.Gave name to epoch) = false

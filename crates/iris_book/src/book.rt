@@ -9,7 +9,7 @@ ghost use Rattle.iris_book.specs.Entering.{after_entry, updates_by, KeepsEarlier
 use crate::entry::Entry;
 use crate::linked::LinkedUpdates;
 use crate::log::Slot;
-use crate::update::NodeUpdate;
+use crate::update::{NodeUpdate, trimmed};
 use crate::weights::{ENTRY_WEIGHT, answer_weight, update_weight};
 use iris_tree::{Local, Mem, Name, Tree};
 use std::alloc::Global;
@@ -104,6 +104,7 @@ impl Book {
         self.enter(entry);
     }
 
+    // The same, without what follows from it.
     fn enter(&mut self, entry: Entry)
         requires room { 1 ≤ self.old.spare }
         requires follows { MayBeEntered self.old.history entry }
@@ -124,7 +125,7 @@ impl Book {
                 self.log.push_reserved(Slot::Update);
                 let update = NodeUpdate {
                     no,
-                    changes,
+                    changes: trimmed(changes),
                     local,
                     at,
                 };

@@ -1,4 +1,5 @@
 //! Updates of a node.
+ghost use Rattle.std.specs.Prelude.{◌≡◌};
 
 use iris_tree::{Change, Local, Sequence};
 
@@ -12,4 +13,13 @@ pub struct NodeUpdate {
     pub local: Local,
     /// The moment, in milliseconds.
     pub at: u64,
+}
+
+// The same changes without room for more, since they are kept for good.
+pub(crate) fn trimmed(changes: Sequence<Change>) -> Sequence<Change>
+    ensures { result ≡ changes }
+{
+    let mut items = changes.into_vec();
+    items.shrink_to_fit();
+    Sequence::from_vec(items)
 }

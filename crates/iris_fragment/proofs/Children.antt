@@ -15,6 +15,7 @@ use Rattle.iris_fragment.specs.Changes.{is_right_above, has_child}
 use Rattle.iris_fragment.specs.Shape.{IsRooted}
 use Rattle.iris_fragment.proofs.Names.{name_exact, name_self, alike_self, alike_exact, equal_from_is_eq, less_below, under_between, cut_last, cut_joined}
 
+-- two tests that imply one another answer the same
 pub same_bool : (a b : Bool) → (a ≡ true → b ≡ true) → (b ≡ true → a ≡ true) → a ≡ b
 same_bool true b to from = sym (to refl)
 same_bool false true to from = from refl
@@ -22,18 +23,22 @@ same_bool false false to from = refl
 
 -- ---- names above held names
 
+-- the name of a held node stands
 pub stands_if_held : (nodes : Nodes) (n : List Label) → is_held nodes n ≡ true → stands nodes n ≡ true
 stands_if_held nodes [] h = refl
 stands_if_held nodes (l ∷ ls) h = h
 
+-- a name that is not the document's stands just where its node is held
 pub stands_unless_empty : (nodes : Nodes) (n : List Label) → (length n == 0) ≡ false → stands nodes n ≡ is_held nodes n
 stands_unless_empty nodes [] h = absurd (cc)
 stands_unless_empty nodes (l ∷ ls) h = refl
 
+-- the same of a name with a last label
 pub held_last : (nodes : Nodes) (front : List Label) (x : Label) → stands nodes (front ++ x ∷ []) ≡ is_held nodes (front ++ x ∷ [])
 held_last nodes [] x = refl
 held_last nodes (l ∷ ls) x = refl
 
+-- a name has a place just where the name above it stands
 pub place_last : (nodes : Nodes) (front : List Label) (x : Label) → has_place nodes (front ++ x ∷ []) ≡ stands nodes front
 place_last nodes front x = ap (stands_above nodes) (cut_last front x)
 
@@ -101,6 +106,7 @@ child_there (e ∷ nodes) n h = there nodes n e _ refl (child_there nodes n) h
 
 -- ---- what follows a name in the order
 
+-- where no held name follows, no child is held
 pub none_after : (nodes : Nodes) (n : List Label) → ((q : List Label) → slice_cmp label_cmp n q ≡ Less → is_held nodes q ≡ true → ⊥) → false ≡ has_child nodes n
 none_after nodes n none = same_bool false (has_child nodes n) (λ h. absurd (cc)) (λ h. let c = child_there nodes n h in absurd (none _ (less_below n c.0 []) c.1))
 

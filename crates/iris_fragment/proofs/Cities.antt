@@ -16,9 +16,9 @@ use Rattle.iris_fragment.specs.declared.status.Status.TheVariants.{IdComplete, I
 use Rattle.iris_fragment.specs.Contents.{Nodes, Contents, held_at, is_held, has_place, stands, stands_above, cut, ids_held, listed_at, listed_above, is_listed, status, part_status, status_or, holds_at, is_held_at}
 use Rattle.iris_fragment.specs.Usable.{piece_of, held_piece}
 use Rattle.iris_fragment.specs.Changes.{replaced, with_part, with_part_in, without_node, has_child}
-use Rattle.iris_fragment.specs.Shape.{AreInNameOrder, IsRooted, IsFragmentOf}
+use Rattle.iris_fragment.specs.Shape.{HaveRisingNames, IsRooted, IsFragmentOf}
 use Rattle.iris_fragment.proofs.Names.{name_self, cut_joined}
-use Rattle.iris_fragment.proofs.Kept.{held-replaced, held-without, above_apart, ids_without}
+use Rattle.iris_fragment.proofs.NodeChanges.{held-replaced, held-without, above_apart, ids_without}
 
 -- ---- the nodes of a city
 
@@ -44,6 +44,7 @@ part_last : (n : Node) (ls : List Label) (x : Label) → part_at n (ls ++ x ∷ 
 part_last n [] x = and_some (child_of x (children_of n))
 part_last n (l ∷ ls) x = below_last (child_of l (children_of n)) ls x (λ m. part_last m ls x)
 
+-- a node is found among the children of the node above it
 pub node_last : (city : Node) (a : Label) (ls : List Label) (x : Label) → node_at city (a ∷ ls ++ x ∷ []) ≡ option_and_then (λ p. child_of x (children_of p)) (node_at city (a ∷ ls))
 node_last city a ls x = by_top (label_eq (label_of city) a)
   where
@@ -166,6 +167,7 @@ bare_in top nodes name (Some node) at h =
     held-replaced nodes name put name (ap (λ (o : Option HeldNode). is_some o) at) ∙ ap (λ (r : Ordering). cond (is_eq r) (Some put) (held_at nodes name)) (name_self name) in
     ap (λ (o : Option HeldNode). status_or (is_listed (record { top = top; nodes = replaced nodes name put }) name) o) there
 
+-- a held node whose part is dropped is held by its ids
 pub status_bare : (top : Label) (nodes : Nodes) (name : List Label) → is_held nodes name ≡ true → status (record { top = top; nodes = with_part nodes name Bare }) name ≡ Some IdComplete
 status_bare top nodes name held = bare_in top nodes name (held_at nodes name) refl held
 
@@ -173,7 +175,8 @@ held_some : (o : Option HeldNode) → is_some o ≡ true → (node : HeldNode) �
 held_some None h = absurd (cc)
 held_some (Some node) h = (node, refl)
 
-pub status_left : (city : Node) (top : Label) (nodes : Nodes) (name : List Label) → IsFragmentOf city (record { top = top; nodes = nodes }) → AreInNameOrder nodes → IsRooted nodes → is_held nodes name ≡ true
+-- a node that is left out is known by its id alone
+pub status_left : (city : Node) (top : Label) (nodes : Nodes) (name : List Label) → IsFragmentOf city (record { top = top; nodes = nodes }) → HaveRisingNames nodes → IsRooted nodes → is_held nodes name ≡ true
     → has_child nodes name ≡ false → status (record { top = top; nodes = without_node nodes name }) name ≡ Some Incomplete
 status_left city top nodes name part ordered rooted held none =
     let after : IsFragmentOf city (record { top = top; nodes = without_node nodes name }) = record { top = part.top; ids = ids_without city nodes name ordered part.ids } in

@@ -1,7 +1,7 @@
-pub mod Named
+pub mod NodeEntries
 pub mod Names
 pub mod Children
 pub mod Parts
-pub mod Kept
+pub mod NodeChanges
 pub mod Cities
-pub mod Taking
+pub mod AfterTaking

@@ -13,26 +13,33 @@ use Rattle.iris_fragment.specs.Contents.{one_above, cut}
 
 -- ---- the order of names
 
+-- labels that compare as equal are equal
 pub label_exact : IsAntisymmetric label_cmp
 label_exact x y e = (label_eq-Decides x y).0 (labels_ties x y ∙ ap is_eq e)
 
+-- names that compare as equal are equal
 pub name_exact : (m n : List Label) → slice_cmp label_cmp m n ≡ Equal → m ≡ n
 name_exact = slice_cmp-IsAntisymmetric label_exact
 
+-- a name is like itself
 pub alike_self : (n : List Label) → pointwise label_eq n n ≡ true
 alike_self = names_equiv.refl
 
+-- an ordering that says equal is that
 pub equal_from_is_eq : (o : Ordering) → is_eq o ≡ true → o ≡ Equal
 equal_from_is_eq Less h = absurd (cc)
 equal_from_is_eq Equal h = refl
 equal_from_is_eq Greater h = absurd (cc)
 
+-- a name compares as equal to itself
 pub name_self : (n : List Label) → slice_cmp label_cmp n n ≡ Equal
 name_self n = equal_from_is_eq _ (sym (names_ties n n) ∙ alike_self n)
 
+-- so does a label
 pub label_self : (l : Label) → label_cmp l l ≡ Equal
 label_self l = equal_from_is_eq _ (sym (labels_ties l l) ∙ labels_equiv.refl l)
 
+-- names that are alike are equal
 pub alike_exact : (m n : List Label) → pointwise label_eq m n ≡ true → m ≡ n
 alike_exact m n h = name_exact m n (equal_from_is_eq _ (sym (names_ties m n) ∙ h))
 
@@ -66,6 +73,7 @@ under_between (l ∷ ls) (y ∷ ys) xs after before = next_label l y ls ys xs (l
 one_above_some : (l : Label) (front : List Label) (x : Label) (o : Option (List Label × Label)) → o ≡ Some (front, x) → one_above l o ≡ Some (l ∷ front, x)
 one_above_some l front x o h = rw h refl
 
+-- a name with a last label is cut before it
 pub cut_last : (front : List Label) (x : Label) → cut (front ++ x ∷ []) ≡ Some (front, x)
 cut_last [] x = refl
 cut_last (l ∷ ls) x = one_above_some l ls x _ (cut_last ls x)
@@ -83,10 +91,12 @@ one_above_not : (l : Label) (o : Option (List Label × Label)) → one_above l o
 one_above_not l None h = cc
 one_above_not l (Some q) h = cc
 
+-- only the document's name is not cut
 pub cut_none : (n : List Label) → cut n ≡ None → n ≡ []
 cut_none [] h = refl
 cut_none (l ∷ ls) h = absurd (one_above_not l (cut ls) h)
 
+-- the two parts of a cut name make it up
 pub cut_joined : (n : List Label) (p : List Label × Label) → cut n ≡ Some p → n ≡ p.0 ++ p.1 ∷ []
 cut_joined [] p h = absurd (cc)
 cut_joined (l ∷ ls) p h = joined_one l ls (cut ls) p h (cut_none ls) (cut_joined ls)

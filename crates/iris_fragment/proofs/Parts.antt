@@ -21,7 +21,7 @@ use Rattle.iris_fragment.specs.declared.piece.Level.TheVariants as level
 use Rattle.iris_fragment.specs.Usable.{is_usable, piece_of, usable_piece}
 use Rattle.iris_fragment.specs.Changes.{replaced, with_part, with_part_in, part_in, takes_any, joined_part, after_taking, taken_at, changed, changed_in}
 use Rattle.iris_fragment.proofs.Names.{name_self, cut_last}
-use Rattle.iris_fragment.proofs.Kept.{held-replaced}
+use Rattle.iris_fragment.proofs.NodeChanges.{held-replaced}
 
 same_part_in : (nodes : Nodes) (name : List Label) (o : Option HeldNode) → held_at nodes name ≡ o → with_part_in o nodes name (part_in o) ≡ nodes
 same_part_in nodes name None h = refl
@@ -45,6 +45,7 @@ not_placed nodes name o h = sym (same_part nodes name) ∙ ap (λ (part : Part).
 pub listed_last : (f : Contents) (above : List Label) (label : Label) → is_listed f (above ++ label ∷ []) ≡ list_any (λ listed. label_eq listed label) (listed_at f above)
 listed_last f above label = ap (listed_above f) (cut_last above label)
 
+-- a piece of a held node changes its part alone
 pub taken_at_held : (o : Option HeldNode) (nodes : Nodes) (piece : Piece) → is_some o ≡ true → taken_at o nodes piece ≡ with_part nodes piece.name (joined_part (part_in o) piece.full)
 taken_at_held None nodes piece h = absurd (cc)
 taken_at_held (Some node) nodes piece h = refl
@@ -76,6 +77,7 @@ part_twice_in nodes name p q (Some node) h =
     held-replaced nodes name put name (ap (λ (o : Option HeldNode). is_some o) h) ∙ ap (λ (r : Ordering). cond (is_eq r) (Some put) (held_at nodes name)) (name_self name) in
     ap (λ (o : Option HeldNode). with_part_in o (replaced nodes name put) name q) there ∙ put_twice (is_at (slice_cmp label_cmp name)) put (record { ids = node.ids; part = q }) nodes
 
+-- of two parts that are put one after another the later stays
 pub part_twice : (nodes : Nodes) (name : List Label) (p q : Part) → with_part (with_part nodes name p) name q ≡ with_part nodes name q
 part_twice nodes name p q = part_twice_in nodes name p q (held_at nodes name) refl
 

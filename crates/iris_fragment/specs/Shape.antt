@@ -18,8 +18,8 @@ abbrev pub IsRooted : Nodes → Type 0
 IsRooted nodes = (name : List Label) → is_held nodes name ≡ true → has_place nodes name ≡ true
 
 -- the names rise, so each is there once
-abbrev pub AreInNameOrder : Nodes → Type 0
-AreInNameOrder nodes = IsStrictlySortedBy (slice_cmp label_cmp) (keys_of nodes)
+abbrev pub HaveRisingNames : Nodes → Type 0
+HaveRisingNames nodes = IsStrictlySortedBy (slice_cmp label_cmp) (keys_of nodes)
 
 -- the ids of a city's node; none where there is no such node
 abbrev pub ids_at : Node → List Label → Option (List Label)
@@ -41,7 +41,7 @@ pub record IsFragmentOf (city : Node) (f : Contents) : Type 0 where
 -- The shape of a fragment of a city.
 pub record HasFragmentShape (city : Node) (f : Contents) : Type 0 where
   -- each name is held once
-  pub ordered : AreInNameOrder f.nodes
+  pub ordered : HaveRisingNames f.nodes
   -- with each node the one above is held
   pub rooted : IsRooted f.nodes
   -- what is held is of the city

@@ -9,7 +9,7 @@ ghost use Rattle.iris_fragment.specs.declared.status.Status.TheVariants as stand
 ghost use Rattle.iris_fragment.specs.Contents.{status, is_held, is_held_at, has_place, is_listed, listed_at};
 ghost use Rattle.iris_fragment.specs.Usable.{usable, held_piece, usable_pieces};
 ghost use Rattle.iris_fragment.specs.Changes.{after_taking, places_piece, evicted, evict_answer, has_child, owned, renewed, released, version_at};
-ghost use Rattle.iris_fragment.specs.Shape.{AreInNameOrder, IsRooted, IsPieceOf, IsFragmentOf, HasFragmentShape};
+ghost use Rattle.iris_fragment.specs.Shape.{HaveRisingNames, IsRooted, IsPieceOf, IsFragmentOf, HasFragmentShape};
 
 use crate::error::EvictError;
 use crate::held::{HeldNode, Part};
@@ -73,7 +73,7 @@ impl Fragment {
     /// that they have there. Each call that changes a fragment keeps it so, where the pieces that it is
     /// given are of that city. This call does nothing.
     pub fn keeps_shape(&self)
-        ensures ordered { AreInNameOrder self.now.nodes }
+        ensures ordered { HaveRisingNames self.now.nodes }
         ensures rooted { IsRooted self.now.nodes }
         ensures whole { (city : Node) → IsFragmentOf city self.now → HasFragmentShape city self.now }
     {

@@ -10,7 +10,7 @@ ghost use Rattle.iris_fragment.specs.declared.status.Status.TheVariants as stand
 ghost use Rattle.iris_fragment.specs.Contents.{Nodes, Contents, held_at, is_held, has_place, status};
 ghost use Rattle.iris_fragment.specs.Usable.{full_held};
 ghost use Rattle.iris_fragment.specs.Changes.{with_node, without_node, with_part, part_in, after_taking, places_piece};
-ghost use Rattle.iris_fragment.specs.Shape.{AreInNameOrder};
+ghost use Rattle.iris_fragment.specs.Shape.{HaveRisingNames};
 
 /// All changes of a fragment are made of three: a node put under a name, a node left out, and another part
 /// put beside the ids of a held node. Each of them changes what is held under that name, as these laws say,
@@ -19,7 +19,7 @@ pub fn look_ups()
     ensures put { (nodes : Nodes) (name other : List Label) (node : HeldNode)
         → held_at (with_node nodes name node) other ≡ (if pointwise label_eq name other then Some node else held_at nodes other) }
     ensures left_out { (nodes : Nodes) (name other : List Label)
-        → AreInNameOrder nodes
+        → HaveRisingNames nodes
         → held_at (without_node nodes name) other ≡ (if pointwise label_eq name other then None else held_at nodes other) }
     ensures replaced { (nodes : Nodes) (name other : List Label) (part : Part)
         → held_at (with_part nodes name part) other ≡ (if pointwise label_eq name other then option_map (λ node. record { ids = node.ids; part = part }) (held_at nodes name) else held_at nodes other) }

@@ -3,7 +3,7 @@ ghost use Rattle.std.specs.Prelude.{◌≡◌, true, [], OnOk, OnErr, option_cop
 ghost use Rattle.iris_fragment.specs.Contents.{held_at, is_held, has_place};
 ghost use Rattle.iris_fragment.specs.Stored.{entries_named};
 ghost use Rattle.iris_fragment.specs.Changes.{with_node, without_node, with_part, part_in, takes, takes_any, joined_part, own_version, has_child};
-ghost use Rattle.iris_fragment.specs.Shape.{AreInNameOrder, IsRooted};
+ghost use Rattle.iris_fragment.specs.Shape.{HaveRisingNames, IsRooted};
 
 use crate::held::{HeldNode, Part};
 use crate::piece::Full;
@@ -60,7 +60,7 @@ impl Nodes {
     // The nodes under lists of labels, in the order of names.
     pub(crate) fn as_map(&self) -> &BTreeMap<Vec<Label>, HeldNode>
         ensures entries_named { entries_named result.now.entries ≡ self.now }
-        ensures ordered { AreInNameOrder self.now }
+        ensures ordered { HaveRisingNames self.now }
     {
         &self.map
     }
@@ -160,7 +160,7 @@ impl Nodes {
 
     pub(crate) fn remove(&mut self, name: &[Label])
         ensures nodes { self.new ≡ without_node self.old name.now }
-        ensures was_ordered { AreInNameOrder self.old }
+        ensures was_ordered { HaveRisingNames self.old }
     {
         self.map.remove(name);
     }

@@ -1,4 +1,4 @@
-use Rattle.iris_fragment.proofs.Kept.{look_up_put, look_up_left_out, look_up_replaced}
+use Rattle.iris_fragment.proofs.NodeChanges.{look_up_put, look_up_left_out, look_up_replaced}
 use Rattle.iris_fragment.proofs.laws.look_ups.Goals as goal
 
 pub returns-clause-put : goal.returns-clause-put

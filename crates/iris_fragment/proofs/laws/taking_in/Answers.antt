@@ -1,4 +1,4 @@
-use Rattle.iris_fragment.proofs.Taking.{skipped, held_then, owned_stays, placed_then, stays_if_held}
+use Rattle.iris_fragment.proofs.AfterTaking.{skipped, held_then, owned_stays, placed_then, stays_if_held}
 use Rattle.iris_fragment.proofs.laws.taking_in.Goals as goal
 
 pub returns-clause-skipped : goal.returns-clause-skipped

@@ -25,7 +25,7 @@ invariant_of-self c =
     let weighs = rw c.as_slice.ensures at c.update_weight-weight.ensures in
     let sum : c.saturating_add-self-inside.result ≡ saturated (c.self.inside.lasting + saturated (weight (updated (c.in-Updated.name, u)))) = omega (arith, c.saturating_add-self-inside.ensures, weighs) in
     kept_update c.self.inside.start c.self.inside.linked c.push.new.self slots c.push_reserved.new.self.items _ _ c.self.inside.lasting c.saturating_add-self-inside.result c.self.inside.answered c.self.inside.spare
-    c.in-Updated.name u c.self.invariant next some c.push_reserved.ensures.items c.push.ensures.updates c.push.ensures.spare (omega (arith, c.push_reserved.ensures.len, c.push_reserved.ensures.capacity)) sum
+    c.in-Updated.name u c.self.invariant next some c.push_reserved.ensures.items (rw c.trimmed.ensures at c.push.ensures.updates) c.push.ensures.spare (omega (arith, c.push_reserved.ensures.len, c.push_reserved.ensures.capacity)) sum
 
 pub invariant_of-self-in-Gave : goal.invariant_of-self-in-Gave
 invariant_of-self-in-Gave c =
@@ -49,7 +49,7 @@ invariant_of-self-in-Answered c =
     (omega (arith, c.push_reserved-in-Answered.ensures.len, c.push_reserved-in-Answered.ensures.capacity)) (c.self.invariant.lasting_is ∙ sym (lasting_same es e refl)) (sum ∙ sym (answered_more es e refl))
 
 pub returns-in-Updated-clause-entries : goal.returns-in-Updated-clause-entries
-returns-in-Updated-clause-entries c = ap (λ (es : List Entry). let h : History = record { start = c.self.inside.start; entries = es } in h) (update_entered c.self.inside.log.items _ c.self.inside.linked.updates _ (c.in-Updated.name, _) c.self.invariant.counted c.push_reserved.ensures.items c.push.ensures.updates) ∙ ap (λ (r : Recorded). with_entry r.history (entry.Updated c.in-Updated.name c.in-Updated.no c.in-Updated.changes c.in-Updated.local c.in-Updated.at)) c.self.view_is ∙ ap (λ (e : Entry). with_entry c.args.self.now.history e) (sym c.in-Updated.is)
+returns-in-Updated-clause-entries c = ap (λ (es : List Entry). let h : History = record { start = c.self.inside.start; entries = es } in h) (update_entered c.self.inside.log.items _ c.self.inside.linked.updates _ (c.in-Updated.name, _) c.self.invariant.counted c.push_reserved.ensures.items (rw c.trimmed.ensures at c.push.ensures.updates)) ∙ ap (λ (r : Recorded). with_entry r.history (entry.Updated c.in-Updated.name c.in-Updated.no c.in-Updated.changes c.in-Updated.local c.in-Updated.at)) c.self.view_is ∙ ap (λ (e : Entry). with_entry c.args.self.now.history e) (sym c.in-Updated.is)
 
 pub returns-in-Gave-clause-entries : goal.returns-in-Gave-clause-entries
 returns-in-Gave-clause-entries c = ap (λ (es : List Entry). let h : History = record { start = c.self.inside.start; entries = es } in h) (other_entered c.self.inside.log.items _ c.self.inside.linked.updates _ (entry.Gave c.in-Gave.name c.in-Gave.to c.in-Gave.epoch) (λ us slots. refl) c.self.invariant.counted c.push_reserved-in-Gave.ensures.items) ∙ ap (λ (r : Recorded). with_entry r.history (entry.Gave c.in-Gave.name c.in-Gave.to c.in-Gave.epoch)) c.self.view_is ∙ ap (λ (e : Entry). with_entry c.args.self.now.history e) (sym c.in-Gave.is)

@@ -4,7 +4,7 @@ use Rattle.iris_fragment.specs.declared.held.Part.TheVariants.{Bare}
 use Rattle.iris_fragment.specs.Contents.{Nodes, Contents, is_held, status}
 use Rattle.iris_fragment.specs.Changes.{has_child, with_part, without_node}
 use Rattle.iris_fragment.specs.Shape.{IsRooted, HaveIdsOf, IsFragmentOf}
-use Rattle.iris_fragment.proofs.Kept.{rooted_part, rooted_without, ids_part, ids_without, part_of_city}
+use Rattle.iris_fragment.proofs.NodeChanges.{rooted_part, rooted_without, ids_part, ids_without, part_of_city}
 use Rattle.iris_fragment.proofs.Cities.{status_bare, status_left}
 use Rattle.iris_fragment.proofs.fragment.Fragment.forget.Goals as goal
 

@@ -5,7 +5,7 @@ use Rattle.iris_fragment.specs.Contents.{Nodes, held_at}
 use Rattle.iris_fragment.specs.Changes.{released_part}
 use Rattle.iris_fragment.proofs.Parts.{part_then, changed_part}
 use Rattle.iris_fragment.specs.Shape.{IsRooted, HaveIdsOf}
-use Rattle.iris_fragment.proofs.Kept.{rooted_part, ids_part, part_of_city}
+use Rattle.iris_fragment.proofs.NodeChanges.{rooted_part, ids_part, part_of_city}
 use Rattle.iris_fragment.proofs.fragment.Fragment.release.Goals as goal
 
 pub invariant_of-self : goal.invariant_of-self

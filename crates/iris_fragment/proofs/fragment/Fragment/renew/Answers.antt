@@ -1,7 +1,7 @@
 use Rattle.std.proofs.Common.{sym, subst}
 use Rattle.iris_fragment.specs.Contents.{Nodes}
 use Rattle.iris_fragment.specs.Shape.{IsRooted, HaveIdsOf}
-use Rattle.iris_fragment.proofs.Kept.{rooted_part, ids_part, part_of_city}
+use Rattle.iris_fragment.proofs.NodeChanges.{rooted_part, ids_part, part_of_city}
 use Rattle.iris_fragment.proofs.fragment.Fragment.renew.Goals as goal
 
 pub invariant_of-self : goal.invariant_of-self

@@ -1,7 +1,7 @@
 use Rattle.std.proofs.Common.{◌≡◌, sym, rules, subst, true, Some}
 use Rattle.iris_fragment.specs.Contents.{Nodes, has_place}
 use Rattle.iris_fragment.specs.Shape.{IsRooted, HaveIdsOf, ids_at}
-use Rattle.iris_fragment.proofs.Kept.{rooted_node, ids_node, part_of_city}
+use Rattle.iris_fragment.proofs.NodeChanges.{rooted_node, ids_node, part_of_city}
 use Rattle.iris_fragment.proofs.fragment.Fragment.set_owned.Goals as goal
 
 pub invariant_of-self-2 : goal.invariant_of-self-2

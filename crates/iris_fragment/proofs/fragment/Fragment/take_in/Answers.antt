@@ -3,7 +3,7 @@ use Rattle.iris_base.specs.declared.name.Label.{Label}
 use Rattle.iris_fragment.specs.Contents.{Nodes, held_at, has_place, is_held}
 use Rattle.iris_fragment.specs.Changes.{with_part, joined_part, part_in}
 use Rattle.iris_fragment.specs.Shape.{IsRooted, HaveIdsOf, ids_at}
-use Rattle.iris_fragment.proofs.Kept.{rooted_part, rooted_node, ids_part, ids_node, part_of_city}
+use Rattle.iris_fragment.proofs.NodeChanges.{rooted_part, rooted_node, ids_part, ids_node, part_of_city}
 use Rattle.iris_fragment.proofs.Parts.{taken_held}
 use Rattle.iris_fragment.proofs.fragment.Fragment.take_in.Goals as goal
 

@@ -1,7 +1,7 @@
 use Rattle.std.proofs.Common.{◌∙◌, sym, ap, is_some, Option}
 use Rattle.iris_fragment.specs.declared.held.HeldNode.{HeldNode}
 use Rattle.iris_fragment.specs.Contents.{Nodes, held_at}
-use Rattle.iris_fragment.proofs.Named.{held-named}
+use Rattle.iris_fragment.proofs.NodeEntries.{held-named}
 use Rattle.iris_fragment.proofs.nodes.Nodes.contains.Goals as goal
 
 pub returns : goal.returns

@@ -1,6 +1,6 @@
 use Rattle.std.proofs.Common.{◌∙◌, sym, ap}
 use Rattle.iris_fragment.specs.Contents.{Nodes, held_at}
-use Rattle.iris_fragment.proofs.Named.{held-named}
+use Rattle.iris_fragment.proofs.NodeEntries.{held-named}
 use Rattle.iris_fragment.proofs.nodes.Nodes.get.Goals as goal
 
 pub returns : goal.returns

@@ -6,7 +6,7 @@ use Rattle.iris_base.proofs.Labels.{label_eq-Decides}
 use Rattle.iris_fragment.specs.declared.held.HeldNode.{HeldNode}
 use Rattle.iris_fragment.specs.Contents.{held_at}
 use Rattle.iris_fragment.proofs.Names.{name_exact}
-use Rattle.iris_fragment.proofs.Named.{held_now, no_child_behind, child_behind}
+use Rattle.iris_fragment.proofs.NodeEntries.{held_now, no_child_behind, child_behind}
 use Rattle.iris_fragment.proofs.nodes.Nodes.has_child.Goals as goal
 
 pub returns-in_default : goal.returns-in_default

@@ -3,7 +3,7 @@ use Rattle.iris_base.specs.declared.name.Label.{Label}
 use Rattle.iris_fragment.specs.Contents.{Nodes}
 use Rattle.iris_fragment.specs.Stored.{entries_named}
 use Rattle.iris_fragment.specs.Changes.{with_node}
-use Rattle.iris_fragment.proofs.Named.{Entries, named-insert, sorted-named}
+use Rattle.iris_fragment.proofs.NodeEntries.{Entries, named-insert, sorted-named}
 use Rattle.iris_fragment.proofs.nodes.Nodes.insert.Goals as goal
 
 pub invariant_of-self-2 : goal.invariant_of-self-2

@@ -1,4 +1,4 @@
-use Rattle.iris_fragment.proofs.Named.{sorted-named}
+use Rattle.iris_fragment.proofs.NodeEntries.{sorted-named}
 use Rattle.iris_fragment.proofs.nodes.Nodes.new.Goals as goal
 
 pub invariant_of-result : goal.invariant_of-result

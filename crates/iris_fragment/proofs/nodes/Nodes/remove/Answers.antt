@@ -2,7 +2,7 @@ use Rattle.std.proofs.Common.{◌∙◌, ap}
 use Rattle.iris_fragment.specs.Contents.{Nodes}
 use Rattle.iris_fragment.specs.Stored.{entries_named}
 use Rattle.iris_fragment.specs.Changes.{without_node}
-use Rattle.iris_fragment.proofs.Named.{Entries, named-remove, sorted-named}
+use Rattle.iris_fragment.proofs.NodeEntries.{Entries, named-remove, sorted-named}
 use Rattle.iris_fragment.proofs.nodes.Nodes.remove.Goals as goal
 
 pub invariant_of-self : goal.invariant_of-self

@@ -3,7 +3,7 @@ use Rattle.std.specs.Map.{lookup}
 use Rattle.std.specs.BTreeMap.{is_at}
 use Rattle.iris_fragment.specs.declared.held.Part.{Part}
 use Rattle.iris_fragment.specs.Stored.{entries_named}
-use Rattle.iris_fragment.proofs.Named.{Entries, against, held_now, part_put, part_not_put, sorted-named}
+use Rattle.iris_fragment.proofs.NodeEntries.{Entries, against, held_now, part_put, part_not_put, sorted-named}
 use Rattle.iris_fragment.proofs.nodes.Nodes.replace.Goals as goal
 
 pub returns-in_err-node-clause-part : goal.returns-in_err-node-clause-part

@@ -15,7 +15,7 @@ use Rattle.iris_fragment.specs.declared.held.HeldNode.{HeldNode}
 use Rattle.iris_fragment.specs.declared.held.Part.{Part}
 use Rattle.iris_fragment.specs.Contents.{Nodes, Contents, held_at, is_held, stands, stands_above, has_place, cut}
 use Rattle.iris_fragment.specs.Changes.{with_node, without_node, replaced, with_part, with_part_in, has_child}
-use Rattle.iris_fragment.specs.Shape.{AreInNameOrder, IsRooted, HaveIdsOf, IsFragmentOf, ids_at}
+use Rattle.iris_fragment.specs.Shape.{HaveRisingNames, IsRooted, HaveIdsOf, IsFragmentOf, ids_at}
 use Rattle.iris_fragment.proofs.Names.{alike_exact, name_exact, name_self, equal_from_is_eq, cut_joined}
 use Rattle.iris_fragment.proofs.Children.{child_found}
 
@@ -48,6 +48,7 @@ put_first Greater k v e es more q at h = rw h (either _ _ refl refl)
     either false true first here = refl
     either false false first here = refl
 
+-- what is held once a node was put under a name
 pub held-with_node : (nodes : Nodes) (k : List Label) (v : HeldNode) (q : List Label) → held_at (with_node nodes k v) q ≡ cond (is_at (slice_cmp label_cmp q) k) (Some v) (held_at nodes q)
 held-with_node [] k v q = refl
 held-with_node (e ∷ es) k v q = put_first (slice_cmp label_cmp k e.0) k v e es (with_node es k v) q refl (held-with_node es k v q)
@@ -55,11 +56,13 @@ held-with_node (e ∷ es) k v q = put_first (slice_cmp label_cmp k e.0) k v e es
 one_name : (name x y : List Label) → is_at (slice_cmp label_cmp name) x ≡ true → is_at (slice_cmp label_cmp name) y ≡ eq_by_cmp (slice_cmp label_cmp) x y
 one_name name x y h = ap (λ (m : List Label). is_at (slice_cmp label_cmp m) y) (same_name name x h)
 
+-- what is held once a held node was replaced
 pub held-replaced : (nodes : Nodes) (name : List Label) (v : HeldNode) (q : List Label) → is_held nodes name ≡ true
     → held_at (replaced nodes name v) q ≡ cond (is_at (slice_cmp label_cmp name) q) (Some v) (held_at nodes q)
 held-replaced nodes name v q held = lookup-set_value (eq_by_cmp_equiv names_total) (is_at (slice_cmp label_cmp name)) (one_name name) q v nodes held
 
-pub held-without : (nodes : Nodes) (name q : List Label) → AreInNameOrder nodes → held_at (without_node nodes name) q ≡ cond (is_at (slice_cmp label_cmp name) q) None (held_at nodes q)
+-- what is held once a node was left out
+pub held-without : (nodes : Nodes) (name q : List Label) → HaveRisingNames nodes → held_at (without_node nodes name) q ≡ cond (is_at (slice_cmp label_cmp name) q) None (held_at nodes q)
 held-without nodes name q ordered = lookup-remove_entry (eq_by_cmp_equiv names_total) (is_at (slice_cmp label_cmp name)) (one_name name) q nodes (IsDistinct-from_sorted _ _ ordered)
 
 -- what is held under a name once a part was put
@@ -72,17 +75,20 @@ held-part_in nodes name part q (Some node) h =
     either true at = sym (ap (λ (o : Option HeldNode). is_some o) (subst (λ (m : List Label). held_at nodes m ≡ Some node) (same_name name q at) h))
     either false at = refl
 
+-- the same names are held once a part was put
 pub held-part : (nodes : Nodes) (name : List Label) (part : Part) (q : List Label) → is_held (with_part nodes name part) q ≡ is_held nodes q
 held-part nodes name part q = held-part_in nodes name part q (held_at nodes name) refl
 
 alike_at : (m n : List Label) → is_at (slice_cmp label_cmp m) n ≡ pointwise label_eq m n
 alike_at m n = sym (names_ties m n)
 
+-- the law of a node that is put
 pub look_up_put : (nodes : Nodes) (name other : List Label) (node : HeldNode) → held_at (with_node nodes name node) other ≡ cond (pointwise label_eq name other) (Some node) (held_at nodes other)
 look_up_put nodes name other node =
     held-with_node nodes name node other ∙ ap (λ (b : Bool). cond b (Some node) (held_at nodes other)) (alike_at other name ∙ names_equiv.symm other name)
 
-pub look_up_left_out : (nodes : Nodes) (name other : List Label) → AreInNameOrder nodes → held_at (without_node nodes name) other ≡ cond (pointwise label_eq name other) None (held_at nodes other)
+-- the law of a node that is left out
+pub look_up_left_out : (nodes : Nodes) (name other : List Label) → HaveRisingNames nodes → held_at (without_node nodes name) other ≡ cond (pointwise label_eq name other) None (held_at nodes other)
 look_up_left_out nodes name other ordered = held-without nodes name other ordered ∙ ap (λ (b : Bool). cond b None (held_at nodes other)) (alike_at name other)
 
 replaced_in : (nodes : Nodes) (name other : List Label) (part : Part) (o : Option HeldNode) → held_at nodes name ≡ o
@@ -96,6 +102,7 @@ replaced_in nodes name other part (Some node) at =
     held-replaced nodes name (record { ids = node.ids; part = part }) other (ap (λ (o : Option HeldNode). is_some o) at)
     ∙ ap (λ (b : Bool). cond b (Some (record { ids = node.ids; part = part })) (held_at nodes other)) (alike_at name other)
 
+-- the law of a part that is put
 pub look_up_replaced : (nodes : Nodes) (name other : List Label) (part : Part)
     → held_at (with_part nodes name part) other ≡ cond (pointwise label_eq name other) (option_map (λ node. record { ids = node.ids; part = part }) (held_at nodes name)) (held_at nodes other)
 look_up_replaced nodes name other part = replaced_in nodes name other part (held_at nodes name) refl
@@ -113,10 +120,12 @@ above_still old new more (Some p) h = stands_still old new more p.0 h
 place_still : (old new : Nodes) → ((q : List Label) → is_held old q ≡ true → is_held new q ≡ true) → (n : List Label) → has_place old n ≡ true → has_place new n ≡ true
 place_still old new more n h = above_still old new more (cut n) h
 
+-- a part that is put leaves the names rooted
 pub rooted_part : (nodes : Nodes) (name : List Label) (part : Part) → IsRooted nodes → IsRooted (with_part nodes name part)
 rooted_part nodes name part rooted n h =
     place_still nodes (with_part nodes name part) (λ q k. held-part nodes name part q ∙ k) n (rooted n (sym (held-part nodes name part n) ∙ h))
 
+-- so does a node that is put where it has a place
 pub rooted_node : (nodes : Nodes) (name : List Label) (v : HeldNode) → has_place nodes name ≡ true → IsRooted nodes → IsRooted (with_node nodes name v)
 rooted_node nodes name v place rooted n h = place_still nodes (with_node nodes name v) more n (here _ refl (sym (ap (λ (o : Option HeldNode). is_some o) (held-with_node nodes name v n)) ∙ h))
   where
@@ -142,19 +151,21 @@ apart_from_child nodes name n p none held at = by_test _ refl
         let bad : false ≡ true = sym none ∙ child in
         absurd (cc)
 
-held_apart : (nodes : Nodes) (name q : List Label) → AreInNameOrder nodes → is_at (slice_cmp label_cmp name) q ≡ false → is_held (without_node nodes name) q ≡ is_held nodes q
+held_apart : (nodes : Nodes) (name q : List Label) → HaveRisingNames nodes → is_at (slice_cmp label_cmp name) q ≡ false → is_held (without_node nodes name) q ≡ is_held nodes q
 held_apart nodes name q ordered apart = ap (λ (o : Option HeldNode). is_some o) (held-without nodes name q ordered ∙ rw apart refl)
 
-stands_apart : (nodes : Nodes) (name q : List Label) → AreInNameOrder nodes → is_at (slice_cmp label_cmp name) q ≡ false → stands nodes q ≡ true → stands (without_node nodes name) q ≡ true
+stands_apart : (nodes : Nodes) (name q : List Label) → HaveRisingNames nodes → is_at (slice_cmp label_cmp name) q ≡ false → stands nodes q ≡ true → stands (without_node nodes name) q ≡ true
 stands_apart nodes name [] ordered apart h = refl
 stands_apart nodes name (l ∷ ls) ordered apart h = held_apart nodes name (l ∷ ls) ordered apart ∙ h
 
-pub above_apart : (nodes : Nodes) (name n : List Label) → AreInNameOrder nodes → has_child nodes name ≡ false → is_held nodes n ≡ true → (o : Option (List Label × Label)) → cut n ≡ o
+-- the name above a held name still stands once a node without held children was left out
+pub above_apart : (nodes : Nodes) (name n : List Label) → HaveRisingNames nodes → has_child nodes name ≡ false → is_held nodes n ≡ true → (o : Option (List Label × Label)) → cut n ≡ o
     → stands_above nodes o ≡ true → stands_above (without_node nodes name) o ≡ true
 above_apart nodes name n ordered none held None at h = h
 above_apart nodes name n ordered none held (Some p) at h = stands_apart nodes name p.0 ordered (apart_from_child nodes name n p none held at) h
 
-pub still_held : (nodes : Nodes) (name n : List Label) → AreInNameOrder nodes → is_held (without_node nodes name) n ≡ true → is_held nodes n ≡ true
+-- what is held without a node was held before
+pub still_held : (nodes : Nodes) (name n : List Label) → HaveRisingNames nodes → is_held (without_node nodes name) n ≡ true → is_held nodes n ≡ true
 still_held nodes name n ordered h = either _ _ (sym (ap (λ (o : Option HeldNode). is_some o) (held-without nodes name n ordered)) ∙ h)
   where
     either : (b : Bool) (o : Option HeldNode) → is_some (cond b None o) ≡ true → is_some o ≡ true
@@ -162,13 +173,14 @@ still_held nodes name n ordered h = either _ _ (sym (ap (λ (o : Option HeldNode
     either false o k = k
 
 -- a node without held children is left out
-pub rooted_without : (nodes : Nodes) (name : List Label) → AreInNameOrder nodes → has_child nodes name ≡ false → IsRooted nodes → IsRooted (without_node nodes name)
+pub rooted_without : (nodes : Nodes) (name : List Label) → HaveRisingNames nodes → has_child nodes name ≡ false → IsRooted nodes → IsRooted (without_node nodes name)
 rooted_without nodes name ordered none rooted n h =
     let held = still_held nodes name n ordered h in
     above_apart nodes name n ordered none held (cut n) refl (rooted n held)
 
 -- ---- the ids of a city
 
+-- ids are those of a city once a node with its ids was put
 pub ids_node : (city : Node) (nodes : Nodes) (name : List Label) (v : HeldNode) → ids_at city name ≡ Some v.ids → HaveIdsOf city nodes → HaveIdsOf city (with_node nodes name v)
 ids_node city nodes name v right of_city n node h = either _ refl (sym (held-with_node nodes name v n) ∙ h)
   where
@@ -189,10 +201,12 @@ ids_part_in city nodes name part (Some old) is of_city n node h =
         subst (λ (m : List Label). ids_at city m ≡ Some node.ids) (same_name name n at) (of_city name old is ∙ ap (λ (w : HeldNode). Some w.ids) same)
     either false at k = of_city n node k
 
+-- and once a part was put
 pub ids_part : (city : Node) (nodes : Nodes) (name : List Label) (part : Part) → HaveIdsOf city nodes → HaveIdsOf city (with_part nodes name part)
 ids_part city nodes name part = ids_part_in city nodes name part (held_at nodes name) refl
 
-pub ids_without : (city : Node) (nodes : Nodes) (name : List Label) → AreInNameOrder nodes → HaveIdsOf city nodes → HaveIdsOf city (without_node nodes name)
+-- and once a node was left out
+pub ids_without : (city : Node) (nodes : Nodes) (name : List Label) → HaveRisingNames nodes → HaveIdsOf city nodes → HaveIdsOf city (without_node nodes name)
 ids_without city nodes name ordered of_city n node h = of_city n node (either _ (sym (held-without nodes name n ordered) ∙ h))
   where
     either : (b : Bool) → cond b None (held_at nodes n) ≡ Some node → held_at nodes n ≡ Some node

@@ -13,9 +13,10 @@ use Rattle.iris_fragment.specs.Contents.{Nodes, Contents, held_at, is_held, has_
 use Rattle.iris_fragment.specs.Usable.{full_held}
 use Rattle.iris_fragment.specs.Changes.{with_part, part_in, takes_any, joined_part, after_taking, taken_at, places_piece}
 use Rattle.iris_fragment.proofs.Names.{alike_self, alike_exact}
-use Rattle.iris_fragment.proofs.Kept.{look_up_put, look_up_replaced}
+use Rattle.iris_fragment.proofs.NodeChanges.{look_up_put, look_up_replaced}
 use Rattle.iris_fragment.proofs.Parts.{not_placed, taken_at_held}
 
+-- a piece without a place changes nothing
 pub skipped : (f : Contents) (piece : Piece) → has_place f.nodes piece.name ≡ false → after_taking f piece ≡ f
 skipped f piece h = rw h refl
 
@@ -50,6 +51,7 @@ here f piece h =
     let at = here_at f.nodes piece (held_at f.nodes piece.name) refl in
     (at.0, ap (λ (ns : Nodes). held_at ns piece.name) (taken_nodes f piece h) ∙ at.1, at.2)
 
+-- the node of any other is held then
 pub held_then : (f : Contents) (piece : Piece) → has_place f.nodes piece.name ≡ true → is_held (after_taking f piece).nodes piece.name ≡ true
 held_then f piece h = ap (λ (o : Option HeldNode). is_some o) (here f piece h).1
 

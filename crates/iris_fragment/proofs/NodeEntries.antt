@@ -25,9 +25,11 @@ use Rattle.iris_fragment.specs.Shape.{IsRooted}
 use Rattle.iris_fragment.proofs.Names.{name_exact, equal_from_is_eq}
 use Rattle.iris_fragment.proofs.Children.{none_after, child_next}
 
+-- a name as the map has it
 abbrev pub Key : Type 0
 Key = Vec Label Global
 
+-- the entries of the map
 abbrev pub Entries : Type 0
 Entries = List (Key × HeldNode)
 
@@ -39,6 +41,7 @@ key_cmp a b = slice_cmp label_cmp a.items b.items
 abbrev pub against : List Label → Key → Ordering
 against name k = slice_cmp label_cmp name k.items
 
+-- a look-up by labels is one by name
 pub held-named : (name : List Label) (es : Entries) → held_at (entries_named es) name ≡ lookup (is_at (against name)) es
 held-named name [] = refl
 held-named name (e ∷ es) = ap (cond (is_at (against name) e.0) (Some e.1)) (held-named name es)
@@ -49,6 +52,7 @@ put_first Less k v e es rest more h = refl
 put_first Equal k v e es rest more h = refl
 put_first Greater k v e es rest more h = ap (λ (ns : Nodes). (e.0.items, e.1) ∷ ns) h
 
+-- an entry that is put is a node that is put
 pub named-insert : (es : Entries) (k : Key) (v : HeldNode) → entries_named (insert_entry key_cmp es k v) ≡ with_node (entries_named es) k.items v
 named-insert [] k v = refl
 named-insert (e ∷ es) k v = put_first (key_cmp k e.0) k v e es _ _ (named-insert es k v)
@@ -57,6 +61,7 @@ take_first : (b : Bool) (e : Key × HeldNode) (es rest : Entries) (less : Nodes)
 take_first true e es rest less h = refl
 take_first false e es rest less h = ap (λ (ns : Nodes). (e.0.items, e.1) ∷ ns) h
 
+-- an entry that is removed is a node that is left out
 pub named-remove : (name : List Label) (es : Entries) → entries_named (remove_entry (is_at (against name)) es) ≡ without_node (entries_named es) name
 named-remove name [] = refl
 named-remove name (e ∷ es) = take_first (is_at (against name) e.0) e es _ _ (named-remove name es)
@@ -66,6 +71,7 @@ set_first : (b : Bool) (v : HeldNode) (e : Key × HeldNode) (es rest : Entries) 
 set_first true v e es rest more h = refl
 set_first false v e es rest more h = ap (λ (ns : Nodes). (e.0.items, e.1) ∷ ns) h
 
+-- an entry whose value is replaced is a node that is replaced
 pub named-set : (name : List Label) (es : Entries) (v : HeldNode) → entries_named (set_value (is_at (against name)) es v) ≡ replaced (entries_named es) name v
 named-set name [] v = refl
 named-set name (e ∷ es) v = set_first (is_at (against name) e.0) v e es _ _ (named-set name es v)
@@ -74,6 +80,7 @@ all_after : (k : Key) (es : Entries) → AllByRecursion (λ x. key_cmp k x ≡ L
 all_after k [] h = h
 all_after k (e ∷ es) h = (h.0, all_after k es h.1)
 
+-- the names rise as the keys do
 pub sorted-named : (es : Entries) → IsStrictlySortedBy key_cmp (keys_of es) → IsStrictlySortedBy (slice_cmp label_cmp) (keys_of (entries_named es))
 unfolding IsStrictlySortedBy
 sorted-named [] h = h
@@ -83,6 +90,7 @@ sorted-named (e ∷ es) h = (all_after e.0 es h.0, sorted-named es h.1)
 pub held_now : (es : Entries) (ns : Nodes) (name : List Label) (o : Option HeldNode) → entries_named es ≡ ns → o ≡ lookup (is_at (against name)) es → held_at ns name ≡ o
 held_now es ns name o same found = ap (λ (ms : Nodes). held_at ms name) (sym same) ∙ held-named name es ∙ sym found
 
+-- a part that is put into an entry that was found
 pub part_put : (es new : Entries) (ns : Nodes) (name : List Label) (node : HeldNode) (part : Part) → entries_named es ≡ ns → Some node ≡ lookup (is_at (against name)) es
     → new ≡ set_value (is_at (against name)) es (record { ids = node.ids; part = part }) → entries_named new ≡ with_part ns name part
 part_put es new ns name node part same found set =
@@ -91,6 +99,7 @@ part_put es new ns name node part same found set =
     ∙ ap (λ (ms : Nodes). replaced ms name (record { ids = node.ids; part = part })) same
     ∙ ap (λ (o : Option HeldNode). with_part_in o ns name part) (sym held)
 
+-- no part is put where no entry was found
 pub part_not_put : (es : Entries) (ns : Nodes) (name : List Label) (part : Part) → entries_named es ≡ ns → None ≡ lookup (is_at (against name)) es → entries_named es ≡ with_part ns name part
 part_not_put es ns name part same found =
     same ∙ ap (λ (o : Option HeldNode). with_part_in o ns name part) (sym (held_now es ns name None same found))
