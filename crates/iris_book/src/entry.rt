@@ -35,26 +35,9 @@ pub enum Entry {
     },
 }
 
-// A copy of a list of changes, by the same allocator.
-fn copy_changes(changes: &Sequence<Change>) -> Mem<Sequence<Change>>
-    ensures { IfOk result (λ copy. copy ≡ changes.now) }
-{
-    let mut copy = Sequence::new(changes.allocator());
-    for change in changes.as_slice() {
-        copy.push(change.copy()?)?;
-    }
-    Ok(copy)
-}
-
-// A copy of a list of cites, by the same allocator.
-fn copy_cites(cites: &Sequence<Cite>) -> Mem<Sequence<Cite>>
-    ensures { IfOk result (λ copy. copy ≡ cites.now) }
-{
-    cites.copy()
-}
-
 impl Entry {
     /// A copy, by the same allocators.
+    #[tactic(auto, using(iris_base::proofs::Copies::copied))]
     pub fn copy(&self) -> Mem<Entry>
         ensures { IfOk result (λ copy. copy ≡ self.now) }
     {
@@ -68,7 +51,7 @@ impl Entry {
             } => Entry::Updated {
                 name: name.copy()?,
                 no: *no,
-                changes: copy_changes(changes)?,
+                changes: changes.copy()?,
                 local: local.copy()?,
                 at: *at,
             },
@@ -86,7 +69,7 @@ impl Entry {
                 request: *request,
                 query: query.copy()?,
                 floor: *floor,
-                cites: copy_cites(cites)?,
+                cites: cites.copy()?,
             },
         })
     }
