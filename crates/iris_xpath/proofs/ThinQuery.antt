@@ -26,7 +26,7 @@ use Rattle.iris_xpath.specs.ThinQuery.{own_attribute, equality_layer, equality, 
 use Rattle.iris_xpath.specs.Places.{is_parent}
 use Rattle.iris_xpath.specs.Meaning as tree
 use Rattle.iris_xpath.specs.ThinMeaning as thin
-use Rattle.iris_xpath.proofs.Reached.{and_true, filter_same}
+use Rattle.iris_xpath.proofs.SelectedPlaces.{and_true, filter_same}
 
 -- ---- the expression of an equality
 

@@ -1,5 +1,5 @@
 pub mod Follows
-pub mod Gives
+pub mod GivesQuery
 pub mod Grammar
 pub mod Meaning
 pub mod PlaceOrder

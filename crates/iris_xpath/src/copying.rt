@@ -2,7 +2,7 @@
 ghost use Rattle.std.specs.Prelude.{◌≡◌, IfOk};
 
 use crate::expression::{Attribute, Expression, NameTest, Operand, Part, Path, Step};
-use iris_base::{Mem, Sequence};
+use iris_tree::{Mem, Sequence};
 use sqlite_items::Boxed;
 use std::alloc::Global;
 

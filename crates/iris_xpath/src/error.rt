@@ -1,6 +1,6 @@
 //! Why a text is not read as a query.
 
-use iris_base::Memory;
+use iris_tree::Memory;
 use std::alloc::AllocError;
 use thiserror::Error;
 

@@ -2,7 +2,7 @@
 ghost use Rattle.std.specs.Prelude.{◌≡◌, None, Some, MatchOption, option_copied};
 ghost use Rattle.iris_xpath.specs.ThinQuery.{kind_of, own_name, attribute_name, literal_text, equality_of};
 
-use iris_base::{Kind, Sequence, Text};
+use iris_tree::{Kind, Sequence, Text};
 use sqlite_items::Boxed;
 
 /// What stands before a step, or before the attribute at the end of a path (XPath 1.0, 2.5).

@@ -1,9 +1,11 @@
 //! Queries.
-ghost use Rattle.std.specs.Prelude.{◌≡◌, ◌≢◌, [], true, IfOk};
+ghost use Rattle.std.specs.Prelude.{◌≡◌, ◌≢◌, ◌≤◌, [], true, length, IfOk};
+ghost use Rattle.iris_base.specs.declared.limits.TheConstants.{MAX_STEPS};
 ghost use Rattle.iris_xpath.specs.ThinQuery.{is_thin};
+ghost use Rattle.iris_xpath.specs.Grammar.{IsQuery};
 
 use crate::expression::{Expression, Step};
-use iris_base::{Mem, Sequence};
+use iris_tree::{Mem, Sequence};
 use std::marker::Model;
 
 /// A query of the thin form: one step or more, from the top of the document down.
@@ -13,9 +15,8 @@ pub struct Query {
 }
 
 impl Model for Query {
-    ghost use Rattle.std.specs.Prelude.{◌≡◌, ◌≢◌, [], true};
     ghost use Rattle.iris_xpath.specs.Syntax.{Syntax};
-    ghost use Rattle.iris_xpath.specs.ThinQuery.{is_thin};
+    ghost use Rattle.iris_xpath.specs.Grammar.{IsQuery};
     ghost use Rattle.std.specs.Coded.{codes};
     ghost use Rattle.iris_xpath.specs.contracts.expression.Expression as expression;
 
@@ -25,7 +26,7 @@ impl Model for Query {
 
     ghost view = { λ q. q.steps };
 
-    ghost invariant = { λ q. (q.steps ≢ []) × (is_thin q.steps ≡ true) };
+    ghost invariant = { λ q. IsQuery q.steps };
 
     ghost inverse = { λ steps. record { steps = steps } };
 }
@@ -33,8 +34,7 @@ impl Model for Query {
 impl Query {
     /// The query of these steps.
     pub(crate) fn new(steps: Sequence<Step<Expression>>) -> Query
-        requires some { steps ≢ [] }
-        requires thin { is_thin steps ≡ true }
+        requires spelled { IsQuery steps }
         ensures { result ≡ steps }
     {
         Query { steps }
@@ -44,7 +44,9 @@ impl Query {
     #[inline]
     pub fn steps(&self) -> &[Step<Expression>]
         ensures value { result.now ≡ self.now }
+        ensures spelled { IsQuery self.now }
         ensures some { self.now ≢ [] }
+        ensures few { length self.now ≤ MAX_STEPS }
         ensures thin { is_thin self.now ≡ true }
     {
         self.steps.as_slice()

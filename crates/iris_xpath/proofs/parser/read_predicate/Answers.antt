@@ -1,5 +1,5 @@
 use Rattle.std.proofs.Common.{◌≡◌, ◌++◌, ◌∷◌, List, ℕ, ap, sym, ◌∙◌}
-use Rattle.iris_xpath.proofs.Predicates.{predicate_name, predicate_found, predicate_last, tail}
+use Rattle.iris_xpath.proofs.ReadsPredicate.{predicate_name, predicate_found, predicate_last, tail}
 use Rattle.iris_xpath.proofs.parser.read_predicate.Goals as goal
 
 pub returns-in_default-strip_front-clause-only : goal.returns-in_default-strip_front-clause-only

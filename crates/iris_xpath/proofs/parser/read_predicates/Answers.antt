@@ -3,9 +3,9 @@ use Rattle.std.proofs.lemmas.Result.{err_from_is_err_and}
 use Rattle.iris_xpath.specs.declared.expression.Expression.{Expression}
 use Rattle.iris_xpath.specs.Grammar.{ReadsPredicate, ReadsAll}
 use Rattle.iris_xpath.specs.Follows.{EndsPredicates}
-use Rattle.iris_xpath.proofs.Pieces.{Left, left_step, left_none, left_end, found_more}
-use Rattle.iris_xpath.proofs.Predicates.{no_predicate, predicate_here, follows_nothing}
-use Rattle.iris_xpath.proofs.Results.{refuses_front, is_later}
+use Rattle.iris_xpath.proofs.ReadsAll.{Left, left_step, left_none, left_end, found_more}
+use Rattle.iris_xpath.proofs.ReadsPredicate.{no_predicate, predicate_here, follows_nothing}
+use Rattle.iris_xpath.proofs.GivesQuery.{refuses_front, is_later}
 use Rattle.iris_xpath.proofs.parser.read_predicates.Goals as goal
 
 pub returns-in_err-predicate-clause-only : goal.returns-in_err-predicate-clause-only

@@ -3,7 +3,7 @@ use denote.Text.{Utf8}
 use Rattle.std.proofs.Common.{◌≡◌, ℕ, List, ◌++◌, length}
 use Rattle.iris_xpath.specs.Grammar.{ReadsAll, ReadsPredicate}
 use Rattle.iris_xpath.specs.Follows.{EndsPredicates}
-use Rattle.iris_xpath.proofs.Pieces.{Left}
+use Rattle.iris_xpath.proofs.ReadsAll.{Left}
 use Rattle.iris_xpath.proofs.parser.read_predicates.Given as goal
 
 abbrev pub invariant-predicates : goal.invariant-predicates

@@ -1,7 +1,7 @@
 use Rattle.std.proofs.Common.{List, ℕ, sym, subst, Contains}
 use Rattle.std.proofs.lemmas.Result.{err_from_is_err_and}
-use Rattle.iris_xpath.proofs.Steps.{step_kind, step_found, step_last, stops_predicates}
-use Rattle.iris_xpath.proofs.Results.{passes_on}
+use Rattle.iris_xpath.proofs.ReadsMain.{step_kind, step_found, step_last, stops_predicates}
+use Rattle.iris_xpath.proofs.GivesQuery.{passes_on}
 use Rattle.iris_xpath.proofs.parser.read_step.Goals as goal
 
 pub returns-in_default-find_kind-clause-only : goal.returns-in_default-find_kind-clause-only

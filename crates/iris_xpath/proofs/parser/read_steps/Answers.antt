@@ -3,9 +3,9 @@ use Rattle.std.proofs.lemmas.Result.{err_from_is_err_and}
 use Rattle.iris_xpath.specs.Syntax.{Syntax}
 use Rattle.iris_xpath.specs.Grammar.{ReadsMain, ReadsAll}
 use Rattle.iris_xpath.specs.Follows.{EndsStep}
-use Rattle.iris_xpath.proofs.Pieces.{Left, left_step, left_none, found_more}
-use Rattle.iris_xpath.proofs.Steps.{IsEnd, follows_step, step_here, steps_end}
-use Rattle.iris_xpath.proofs.Results.{refuses, is_later}
+use Rattle.iris_xpath.proofs.ReadsAll.{Left, left_step, left_none, found_more}
+use Rattle.iris_xpath.proofs.ReadsMain.{IsEnd, follows_step, step_here, steps_end}
+use Rattle.iris_xpath.proofs.GivesQuery.{refuses, is_later}
 use Rattle.iris_xpath.proofs.parser.read_steps.Goals as goal
 
 pub returns-in_err-step-clause-only : goal.returns-in_err-step-clause-only

@@ -2,8 +2,8 @@ use denote.Shadow.{shadow}
 use denote.Text.{Utf8}
 use Rattle.std.proofs.Common.{◌≡◌, ℕ, List, ◌++◌, length}
 use Rattle.iris_xpath.specs.Grammar.{ReadsAll, ReadsMain}
-use Rattle.iris_xpath.proofs.Pieces.{Left}
-use Rattle.iris_xpath.proofs.Steps.{IsEnd}
+use Rattle.iris_xpath.proofs.ReadsAll.{Left}
+use Rattle.iris_xpath.proofs.ReadsMain.{IsEnd}
 use Rattle.iris_xpath.proofs.parser.read_steps.Given as goal
 
 abbrev pub invariant-steps : goal.invariant-steps

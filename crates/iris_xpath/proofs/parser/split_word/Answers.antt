@@ -1,5 +1,5 @@
 use Rattle.std.proofs.Common.{sym}
-use Rattle.iris_xpath.proofs.Words.{word_found}
+use Rattle.iris_xpath.proofs.IsQueryWord.{word_found}
 use Rattle.iris_xpath.proofs.parser.split_word.Goals as goal
 
 pub returns-clause-found : goal.returns-clause-found

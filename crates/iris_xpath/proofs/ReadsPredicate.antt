@@ -4,9 +4,9 @@ use Rattle.std.proofs.lemmas.Bool.Decides.{nat_tests}
 use Rattle.iris_xpath.specs.declared.expression.Expression.{Expression}
 use Rattle.iris_xpath.specs.Thin.{Equals}
 use Rattle.iris_xpath.specs.ThinQuery.{equality}
-use Rattle.iris_xpath.specs.Grammar.{IsWord, HasNoQuote, ReadsAll, ReadsPredicate}
+use Rattle.iris_xpath.specs.Grammar.{IsQueryWord, HasNoQuote, ReadsAll, ReadsPredicate}
 use Rattle.iris_xpath.specs.Follows.{EndsWord, EndsPredicates}
-use Rattle.iris_xpath.proofs.Words.{word_cut}
+use Rattle.iris_xpath.proofs.IsQueryWord.{word_cut}
 
 -- where no `[` stands, no predicate does
 pub no_predicate : (rest : List ℕ) → (slice_index rest 0 == 91) ≡ false → (f w : List ℕ) (p : Expression) → ReadsPredicate f p → rest ≢ f ++ w
@@ -22,7 +22,7 @@ pub follows_nothing : (b w : List ℕ) (ps : List Expression) → ReadsAll Reads
 follows_nothing b w ps h s = tt
 
 -- the word after `[@` is the predicate's name, and its value follows
-pub predicate_name : (text r w q front z : List ℕ) (p : Expression) → text ≡ codes "[@" ++ r → r ≡ w ++ q → IsWord w → EndsWord q → (h : ReadsPredicate front p) → text ≡ front ++ z
+pub predicate_name : (text r w q front z : List ℕ) (p : Expression) → text ≡ codes "[@" ++ r → r ≡ w ++ q → IsQueryWord w → EndsWord q → (h : ReadsPredicate front p) → text ≡ front ++ z
     → (w ≡ h.says.name) × (q ≡ codes "='" ++ (h.says.value ++ 39 ∷ (codes "]" ++ z)))
 predicate_name text r w q front z p e1 e2 hw hq h e =
     let whole : w ++ q ≡ h.says.name ++ (codes "='" ++ (h.says.value ++ 39 ∷ (codes "]" ++ z))) =
@@ -40,7 +40,7 @@ pub predicate_last : (made : Expression) (n v r z front : List ℕ) (p : Express
 predicate_last made n v r z front p em h en ev e = (em ∙ ap equality (same_equals n v h.says en ev) ∙ sym h.is, e)
 
 -- an expression made of the name and the value that stand in the text is what the text reads as
-pub predicate_found : (text r n q s v t z : List ℕ) (made : Expression) → text ≡ codes "[@" ++ r → (r ≡ n ++ q) × IsWord n × EndsWord q → q ≡ codes "='" ++ s → (s ≡ v ++ 39 ∷ t) × HasNoQuote v → t ≡ codes "]" ++ z → made ≡ equality (record { name = n; value = v })
+pub predicate_found : (text r n q s v t z : List ℕ) (made : Expression) → text ≡ codes "[@" ++ r → (r ≡ n ++ q) × IsQueryWord n × EndsWord q → q ≡ codes "='" ++ s → (s ≡ v ++ 39 ∷ t) × HasNoQuote v → t ≡ codes "]" ++ z → made ≡ equality (record { name = n; value = v })
     → (front : List ℕ) × (text ≡ front ++ z) × ReadsPredicate front made
 predicate_found text r n q s v t z made e1 e2 e3 e4 e5 em =
     let front : List ℕ = codes "[@" ++ n ++ codes "='" ++ v ++ codes "']" in

@@ -11,10 +11,10 @@ use Rattle.iris_xpath.specs.declared.expression.Expression.{Expression}
 use Rattle.iris_xpath.specs.Syntax.{Syntax}
 use Rattle.iris_xpath.specs.ThinQuery.{equality_of, is_thin_step, is_thin}
 use Rattle.iris_xpath.proofs.ThinQuery.{equality_is}
-use Rattle.iris_xpath.specs.Grammar.{IsWord, ReadsAll, ReadsPredicate, ReadsMain}
+use Rattle.iris_xpath.specs.Grammar.{IsQueryWord, ReadsAll, ReadsPredicate, ReadsMain}
 use Rattle.iris_xpath.specs.Follows.{EndsWord, EndsPredicates, EndsStep}
-use Rattle.iris_xpath.proofs.Pieces.{Left, left_end}
-use Rattle.iris_xpath.proofs.Words.{word_cut}
+use Rattle.iris_xpath.proofs.ReadsAll.{Left, left_end}
+use Rattle.iris_xpath.proofs.IsQueryWord.{word_cut}
 
 stops_word : (z : List ℕ) → EndsStep z → EndsWord z
 stops_word [] h = tt
@@ -26,12 +26,12 @@ stops_predicates [] h = tt
 stops_predicates (b ∷ z) h = λ e. absurd (omega (arith, e, h))
 
 -- predicates, and what may follow a step, end the word before them
-predicates_end : (rest z : List ℕ) (ps : List Expression) → ReadsAll ReadsPredicate rest ps → EndsStep z → EndsWord (rest ++ z)
+pub predicates_end : (rest z : List ℕ) (ps : List Expression) → ReadsAll ReadsPredicate rest ps → EndsStep z → EndsWord (rest ++ z)
 predicates_end rest z [] h hz = rw h (stops_word z hz)
 predicates_end rest z (p ∷ ps) h hz = rw (h.2, h.3.spelled) refl
 
 -- the word after `/` is the step's kind, and its predicates follow
-pub step_kind : (kinds : List (List ℕ)) (text r w q front z : List ℕ) (s : Step Expression) → text ≡ codes "/" ++ r → r ≡ w ++ q → IsWord w → EndsWord q → (h : ReadsMain kinds front s) → EndsStep z → text ≡ front ++ z
+pub step_kind : (kinds : List (List ℕ)) (text r w q front z : List ℕ) (s : Step Expression) → text ≡ codes "/" ++ r → r ≡ w ++ q → IsQueryWord w → EndsWord q → (h : ReadsMain kinds front s) → EndsStep z → text ≡ front ++ z
     → (w ≡ h.kind) × (rest : List ℕ) × ReadsAll ReadsPredicate rest s.predicates × (q ≡ rest ++ z)
 step_kind kinds text r w q front z s e1 e2 hw hq h hz e =
     let whole : w ++ q ≡ h.kind ++ (h.rest ++ z) =
@@ -46,7 +46,7 @@ abbrev pub child_step : List ℕ → List Expression → Step Expression
 child_step kind ps = record { separator = Slash; test = Kind kind; predicates = ps }
 
 -- a step made of the kind and the predicates that stand in the text is what the text reads as
-pub step_found : (kinds : List (List ℕ)) (text r w q k z : List ℕ) (ps : List Expression) → text ≡ codes "/" ++ r → r ≡ w ++ q → IsWord w → (k ≡ w) × Contains kinds w → ((f : List ℕ) × (q ≡ f ++ z) × ReadsAll ReadsPredicate f ps)
+pub step_found : (kinds : List (List ℕ)) (text r w q k z : List ℕ) (ps : List Expression) → text ≡ codes "/" ++ r → r ≡ w ++ q → IsQueryWord w → (k ≡ w) × Contains kinds w → ((f : List ℕ) × (q ≡ f ++ z) × ReadsAll ReadsPredicate f ps)
     → (front : List ℕ) × (text ≡ front ++ z) × ReadsMain kinds front (child_step k ps)
 step_found kinds text r w q k z ps e1 e2 hw hk h =
     let e : text ≡ (47 ∷ k ++ h.0) ++ z = e1 ∙ ap (λ (v : List ℕ). 47 ∷ v) (e2 ∙ ap (λ (v : List ℕ). v ++ q) (sym hk.0) ∙ ap (λ (v : List ℕ). k ++ v) h.1 ∙ sym (append_assoc k h.0 z)) in (
@@ -58,7 +58,7 @@ step_found kinds text r w q k z ps e1 e2 hw hk h =
         separator = refl;
         test = refl;
         spelled = refl;
-        word = subst IsWord (sym hk.0) hw;
+        word = subst IsQueryWord (sym hk.0) hw;
         known = subst (λ (v : List ℕ). Contains kinds v) (sym hk.0) hk.1;
         predicates = h.2;
       },
@@ -84,7 +84,7 @@ follows_step kinds b w (s ∷ ss) h e = rw (h.2, h.3.spelled) refl
 pub step_here : (rest : List ℕ) → (length rest == 0) ≡ false → (w : List ℕ) → IsEnd w → rest ≢ w
 step_here rest h w s e = let k : length rest ≡ 0 = rw (e, s) refl in grind (arith, nat_tests)
 
-no_step : (kinds : List (List ℕ)) (rest : List ℕ) → rest ≡ [] → (f w : List ℕ) (s : Step Expression) → ReadsMain kinds f s → rest ≢ f ++ w
+pub no_step : (kinds : List (List ℕ)) (rest : List ℕ) → rest ≡ [] → (f w : List ℕ) (s : Step Expression) → ReadsMain kinds f s → rest ≢ f ++ w
 no_step kinds rest h f w s r e = let k : [] ≡ 47 ∷ r.kind ++ r.rest ++ w = sym h ∙ e ∙ ap (λ (v : List ℕ). v ++ w) r.spelled in absurd (cc)
 
 empty_test : (rest : List ℕ) → (length rest == 0) ≡ true → rest ≡ []

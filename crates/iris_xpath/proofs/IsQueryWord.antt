@@ -5,7 +5,9 @@ use Rattle.std.proofs.lemmas.Str.{IsCharBoundary-start, IsCharBoundary-after_asc
 use Rattle.std.specs.Str.{IsUtf8, IsCharBoundary}
 use Rattle.std.proofs.lemmas.Bool.Decides.{nat_tests}
 use Rattle.std.specs.List.{AllByRecursion}
-use Rattle.iris_xpath.specs.Grammar.{IsWordByte, is_word_byte, is_letter, IsWord}
+use Rattle.iris_base.specs.Letters.{has}
+use Rattle.iris_base.specs.declared.letters.Letters.TheVariants as letters
+use Rattle.iris_xpath.specs.Grammar.{IsWordByte, IsQueryWord}
 use Rattle.iris_xpath.specs.Follows.{EndsWord}
 
 -- the longest run is one
@@ -21,7 +23,7 @@ run_cut (b ∷ v) (c ∷ w) y z hv hw hy hz e =
     (let p : v ≡ w = h.0 in cc, h.1)
 
 -- a text is cut after its longest word in one way
-pub word_cut : (v w y z : List ℕ) → IsWord v → IsWord w → EndsWord y → EndsWord z → v ++ y ≡ w ++ z → (v ≡ w) × (y ≡ z)
+pub word_cut : (v w y z : List ℕ) → IsQueryWord v → IsQueryWord w → EndsWord y → EndsWord z → v ++ y ≡ w ++ z → (v ≡ w) × (y ≡ z)
 word_cut [] w y z hv hw hy hz e = absurd hv
 word_cut (b ∷ v) [] y z hv hw hy hz e = absurd hw
 word_cut (b ∷ v) (c ∷ w) y z hv hw hy hz e =
@@ -30,7 +32,7 @@ word_cut (b ∷ v) (c ∷ w) y z hv hw hy hz e =
     (let p : v ≡ w = h.0 in cc, h.1)
 
 -- a word's bytes are ASCII
-pub word_ascii : (b : ℕ) → is_word_byte b ≡ true → b < 128
+pub word_ascii : (b : ℕ) → has letters.WordOrDash b ≡ true → b < 128
 word_ascii b h = grind (arith, nat_tests)
 
 -- a text may be cut after bytes of a word
@@ -39,16 +41,16 @@ word_boundary bs zero u l h = IsCharBoundary-start bs u
 word_boundary bs (suc m) u l h = simp unary_clauses at (IsCharBoundary-after_ascii bs m u (omega arith) (word_ascii _ (h m (omega arith))))
 
 -- where a letter stands first, the longest run is a word, and what follows ends it
-pub word_found : (text front back : List ℕ) (n : ℕ) → front ≡ slice_range text 0 n → back ≡ drop n text → is_letter (slice_index text 0) ≡ true → AllByRecursion IsWordByte (take n text) → EndsWord (drop n text) → (text ≡ front ++ back) × IsWord front × EndsWord back
+pub word_found : (text front back : List ℕ) (n : ℕ) → front ≡ slice_range text 0 n → back ≡ drop n text → has letters.Letter (slice_index text 0) ≡ true → AllByRecursion IsWordByte (take n text) → EndsWord (drop n text) → (text ≡ front ++ back) × IsQueryWord front × EndsWord back
 word_found [] front back n ef eb first run ends = absurd (cc)
-word_found (b ∷ text) front back zero ef eb first run ends = let k : is_word_byte b ≡ true = grind (arith, nat_tests) in absurd (cc)
+word_found (b ∷ text) front back zero ef eb first run ends = let k : has letters.WordOrDash b ≡ true = grind (arith, nat_tests) in absurd (cc)
 word_found (b ∷ text) front back (suc n) ef eb first run ends =
     let e : text ≡ take n text ++ drop n text = sym (take-append-drop n text) in
     let f : front ≡ b ∷ take n text = ef ∙ (let k : suc n - 0 ≡ suc n = omega arith in ap (λ m. take m (b ∷ text)) k) in
-    (cc, subst IsWord (sym f) (first, run.1), subst EndsWord (sym eb) ends)
+    (cc, subst IsQueryWord (sym f) (first, run.1), subst EndsWord (sym eb) ends)
 
 -- where no letter stands first, no word does
-pub word_none : (text w z : List ℕ) → is_letter (slice_index text 0) ≡ false → IsWord w → text ≢ w ++ z
+pub word_none : (text w z : List ℕ) → has letters.Letter (slice_index text 0) ≡ false → IsQueryWord w → text ≢ w ++ z
 word_none text [] z h hw e = absurd hw
 word_none [] (b ∷ w) z h hw e = absurd (cc)
 word_none (c ∷ text) (b ∷ w) z h hw e = let q : c ≡ b = cc in absurd (cc)

@@ -17,7 +17,7 @@ use Rattle.iris_xpath.specs.Meaning as tree
 use Rattle.iris_xpath.specs.Thin.{Main}
 use Rattle.iris_xpath.specs.ThinQuery.{is_thin, thin_of}
 use Rattle.iris_xpath.specs.ThinMeaning.{fits, tested_with_a_look, selected, full_names}
-use Rattle.iris_xpath.proofs.Reached.{Parts, is_end, is_edge, reached, looked, plain_never, selected_is, full_names_are}
+use Rattle.iris_xpath.proofs.SelectedPlaces.{Parts, is_end, is_edge, reached, looked, plain_never, selected_is, full_names_are}
 use Rattle.iris_xpath.proofs.ThinQuery.{selected_thin}
 use Rattle.iris_xpath.specs.Walk.{led_to, all_led_to, looked_at, all_looked_at}
 
