@@ -17,8 +17,8 @@ use Rattle.iris_tree.specs.Universe.{Node, node, Nodes, no_nodes, nodes, nodes_o
 use Rattle.iris_tree.proofs.Siblings.{list_of-nodes_of, labels_sorted}
 use Rattle.iris_fragment.specs.declared.piece.Full.{Full}
 use Rattle.iris_fragment.specs.declared.piece.Piece.{Piece}
-use Rattle.iris_json.specs.declared.item.Element.TheVariants as elements
-use Rattle.iris_json.specs.declared.item.Item.{Item}
+use Rattle.iris_tree.specs.declared.item.Element.TheVariants as elements
+use Rattle.iris_tree.specs.declared.item.Item.{Item}
 use Rattle.iris_xpath.specs.Meaning.{selected}
 use Rattle.iris_xpath.specs.Syntax.{Syntax}
 use Rattle.iris_xpath.specs.Thin.{Main}
@@ -26,7 +26,8 @@ use Rattle.iris_xpath.specs.ThinQuery.{is_thin, thin_of}
 use Rattle.iris_need.specs.declared.need.State.TheVariants as states
 use Rattle.iris_need.specs.declared.walk.Looks.TheVariants.{Unmet}
 use Rattle.iris_need.specs.Pieces.{Pieces, piece_at, view_of, Agrees, IsPieceAt}
-use Rattle.iris_need.specs.Documents.{IsDocument, items_in}
+use Rattle.iris_tree.specs.Items.{items_at}
+use Rattle.iris_need.specs.Documents.{IsDocument}
 use Rattle.iris_need.specs.Needs.{is_under, seen_from, evaluation, missing_of, from_document}
 use Rattle.iris_need.specs.Run.{Run, give, both, next, after, pair_value, run, Seen, Out}
 use Rattle.iris_need.specs.Program.{each, gather, where_so, room, node_spot, subtree, found}
@@ -332,12 +333,12 @@ given_evaluation pieces query top t = ap (λ (o : Out (List Item)). o.value) (sy
 
 -- what was found is what the query selects in each document that agrees
 pub determined_items : (above : List Label) (pieces : Pieces) (query steps : Syntax) (top : Label) (items old : List Item) (told : Bool) (document : Node) → is_thin query ≡ true → missing_of query (from_document top) pieces ≡ [] → above ≡ [] → old ≡ [] → steps ≡ query
-    → (AreRising pieces → items_if told items ≡ found_after old (given above pieces (thin_from top 0 (thin_of steps)))) → IsDocument document → label_of document ≡ top → Agrees document pieces → items ≡ items_in document (selected document query)
+    → (AreRising pieces → items_if told items ≡ found_after old (given above pieces (thin_from top 0 (thin_of steps)))) → IsDocument document → label_of document ≡ top → Agrees document pieces → items ≡ items_at document (selected document query)
 determined_items above pieces query steps top items old told document t none a o s found is l agrees =
     let missing : missing_of query (from_document (label_of document)) pieces ≡ [] = ap (λ (m : Label). missing_of query (from_document m) pieces) l ∙ none in
-    let value : (evaluation query (from_document top) (view_of pieces)).value ≡ Some (items_in document (selected document query)) =
+    let value : (evaluation query (from_document top) (view_of pieces)).value ≡ Some (items_at document (selected document query)) =
     ap (λ (m : Label). (evaluation query (from_document m) (view_of pieces)).value) (sym l) ∙ determines query pieces document t is agrees missing in
-    told_is told items (items_in document (selected document query)) (found (agrees_rising document pieces is.0 agrees)
+    told_is told items (items_at document (selected document query)) (found (agrees_rising document pieces is.0 agrees)
     ∙ ap (λ (xs : List Item). found_after xs (given above pieces (thin_from top 0 (thin_of steps)))) o
     ∙ ap (λ (ls : List Label). found_after [] (given ls pieces (thin_from top 0 (thin_of steps)))) a
     ∙ ap (λ (q : Syntax). found_after [] (given [] pieces (thin_from top 0 (thin_of q)))) s

@@ -1,18 +1,20 @@
 -- Where the nodes of a document stand: by their names, with the levels that their names leave below them.
-use Rattle.std.proofs.Common.{◌≡◌, ℕ, zero, suc, ◌+◌, ◌≤◌, Bool, true, false, cond, List, [], ◌∷◌, ◌++◌, length, map, refl, ap, ◌∙◌, arith, Option, Some, None, option_and_then}
+use Rattle.std.proofs.Common.{◌≡◌, ℕ, zero, suc, ◌+◌, ◌-◌, ◌≤◌, Bool, true, false, cond, List, [], ◌∷◌, ◌++◌, length, map, refl, ap, ◌∙◌, arith, Option, Some, None, option_and_then}
 use Rattle.std.specs.List.{AllByRecursion}
 use Rattle.std.specs.Option.{option_map_or}
 use Rattle.std.proofs.lemmas.List.{length-append}
 use Rattle.std.proofs.lemmas.List.Elements.{recursion_from_All}
 use Rattle.iris_base.specs.declared.name.Label.{Label}
+use Rattle.iris_base.specs.declared.limits.TheConstants.{MAX_LABELS}
 use Rattle.iris_base.specs.NameOrder.{label_eq, labels_equiv}
 use Rattle.iris_tree.specs.declared.local.Local.{Local}
 use Rattle.iris_tree.specs.Universe.{Node, node, Nodes, no_nodes, nodes, label_of, local_of, children_of, ids_of, child_of, part_at, node_at, IsOrdered, AreOrdered}
 use Rattle.iris_tree.specs.Document.{Part, a_node, place_of, name_of, part_at_place, below_node, names_of, all_names_of}
-use Rattle.iris_json.specs.declared.item.Element.TheVariants as elements
+use Rattle.iris_tree.specs.declared.item.Element.TheVariants as elements
 use Rattle.iris_fragment.proofs.Cities.{node_last}
-use Rattle.iris_xpath.proofs.Meant.{Finds, finds_all}
-use Rattle.iris_need.specs.Documents.{IsDocument, item_of, item_in}
+use Rattle.iris_xpath.proofs.Walk.{Finds, finds_all}
+use Rattle.iris_tree.specs.Items.{item_of, item_at}
+use Rattle.iris_need.specs.Documents.{IsDocument}
 use Rattle.iris_need.specs.Program.{room}
 use Rattle.iris_need.specs.Run.{ids_in, local_in, no_local}
 
@@ -63,7 +65,7 @@ pub record Stands (document : Node) (name : List Label) (n : Node) (levels : ℕ
   pub there : node_at document name ≡ Some n
   pub ordered : IsOrdered n
   pub bounded : Shallow n levels
-  pub levels_left : levels + length name ≡ 16
+  pub levels_left : levels + length name ≡ MAX_LABELS
 
 -- so do these children of the node at the name
 abbrev pub AllStand : Node → List Label → Nodes → ℕ → Type 0
@@ -75,10 +77,10 @@ child_at : (document : Node) (name : List Label) (l : Label) (n : Node) → node
 child_at document [] l n h = absurd (cc)
 child_at document (a ∷ name) l n h = node_last document a name l ∙ ap (option_and_then (λ p. child_of l (children_of p))) h
 
-one_level : (levels : ℕ) (name : List Label) (l : Label) → suc levels + length name ≡ 16 → levels + length (name ++ l ∷ []) ≡ 16
+one_level : (levels : ℕ) (name : List Label) (l : Label) → suc levels + length name ≡ MAX_LABELS → levels + length (name ++ l ∷ []) ≡ MAX_LABELS
 one_level levels name l h = omega (arith, length-append name (l ∷ []))
 
-below_stand : (document : Node) (name : List Label) (n : Node) (ns : Nodes) (levels : ℕ) → node_at document name ≡ Some n → Finds (children_of n) ns → AreOrdered ns → AllShallow ns levels → levels + length name ≡ 16 → AllStand document name ns levels
+below_stand : (document : Node) (name : List Label) (n : Node) (ns : Nodes) (levels : ℕ) → node_at document name ≡ Some n → Finds (children_of n) ns → AreOrdered ns → AllShallow ns levels → levels + length name ≡ MAX_LABELS → AllStand document name ns levels
 below_stand document name n no_nodes levels there found ordered bounded left = tt
 below_stand document name n (nodes c cs) zero there found ordered bounded left = absurd bounded
 below_stand document name n (nodes c cs) (suc levels) there found ordered bounded left = (
@@ -94,8 +96,8 @@ top_at : (n : Node) → node_at n (label_of n ∷ []) ≡ Some n
 top_at n = ap (λ b. cond b (Some n) None) (labels_equiv.refl (label_of n))
 
 -- the top node
-pub top_stands : (document : Node) → IsDocument document → Stands document (label_of document ∷ []) document 15
-top_stands document h = record { there = top_at document; ordered = h.0; bounded = shallow document 15 (recursion_from_All (λ name. length name ≤ 16) (names_of document) h.1); levels_left = refl }
+pub top_stands : (document : Node) → IsDocument document → Stands document (label_of document ∷ []) document (MAX_LABELS - 1)
+top_stands document h = record { there = top_at document; ordered = h.0; bounded = shallow document (MAX_LABELS - 1) (recursion_from_All (λ name. length name ≤ MAX_LABELS) (names_of document) h.1); levels_left = refl }
 
 -- ---- what is seen of a node
 
@@ -132,6 +134,6 @@ name_is : (name : List Label) → name_of (place_of name) ≡ name
 name_is [] = refl
 name_is (l ∷ name) = ap (λ ls. l ∷ ls) (name_is name)
 
-pub item_is : (document : Node) (name : List Label) (n : Node) → node_at document name ≡ Some n → item_in document (place_of name) ≡ Some (record { at = name; is = elements.Node n })
+pub item_is : (document : Node) (name : List Label) (n : Node) → node_at document name ≡ Some n → item_at document (place_of name) ≡ Some (record { at = name; is = elements.Node n })
 item_is document name n h =
     ap (option_and_then (item_of (name_of (place_of name)))) (part_is document name n h) ∙ ap (λ (at : List Label). Some (record { at = at; is = elements.Node n })) (name_is name)

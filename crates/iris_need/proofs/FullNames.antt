@@ -10,20 +10,21 @@ use Rattle.iris_tree.specs.Universe.{Node, node, Nodes, no_nodes, nodes, nodes_o
 use Rattle.iris_tree.specs.Document.{a_node, names_of, all_names_of}
 use Rattle.iris_fragment.specs.declared.piece.Level.{Level}
 use Rattle.iris_fragment.specs.declared.piece.Level.TheVariants.{Ids, Full}
-use Rattle.iris_json.specs.declared.item.Element.TheVariants as elements
+use Rattle.iris_tree.specs.declared.item.Element.TheVariants as elements
 use Rattle.iris_xpath.specs.Syntax.{Syntax}
 use Rattle.iris_xpath.specs.Thin.{Equals, Main}
 use Rattle.iris_xpath.specs.ThinMeaning.{holds, is_of_kind, looks_into}
 use Rattle.iris_xpath.specs.ThinMeaning as thin
 use Rattle.iris_xpath.specs.ThinQuery.{is_thin, thin_step, thin_of}
 use Rattle.iris_xpath.specs.Walk.{names_from, looked_at, all_looked_at}
-use Rattle.iris_xpath.proofs.Meant.{under_names, looked_is}
+use Rattle.iris_xpath.proofs.Walk.{under_names, looked_is}
 use Rattle.iris_need.specs.declared.need.Need.{Need}
 use Rattle.iris_need.specs.declared.need.State.{State}
 use Rattle.iris_need.specs.declared.need.State.TheVariants as states
 use Rattle.iris_need.specs.Documents.{IsDocument}
 use Rattle.iris_need.specs.Needs.{is_full_level, is_full, full_names}
-use Rattle.iris_need.specs.Program.{each, gather, where_so, and_so, is_id, room, subtree}
+use Rattle.iris_base.specs.Attribute.{is_id}
+use Rattle.iris_need.specs.Program.{each, gather, where_so, and_so, room, subtree}
 use Rattle.iris_need.specs.Run.{Run, give, run, all_of, eval, ids_in, local_in}
 use Rattle.iris_need.proofs.Apart.{full_of, AllNamed, named_append, Block, Blocks, no_blocks, no_block, more_blocks, own_block}
 use Rattle.iris_need.proofs.AtNodes.{next_log}

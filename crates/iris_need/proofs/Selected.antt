@@ -10,21 +10,23 @@ use Rattle.iris_tree.specs.declared.local.Local.{Local}
 use Rattle.iris_tree.specs.NodeCode.{nodes_of-list_of}
 use Rattle.iris_tree.specs.Universe.{Node, node, Nodes, no_nodes, nodes, nodes_of, list_of, label_of, labels_of, local_of, node_at}
 use Rattle.iris_tree.specs.Document.{place_of, a_node}
-use Rattle.iris_json.specs.declared.item.Element.TheVariants as elements
-use Rattle.iris_json.specs.declared.item.Item.{Item}
+use Rattle.iris_tree.specs.declared.item.Element.TheVariants as elements
+use Rattle.iris_tree.specs.declared.item.Item.{Item}
 use Rattle.iris_xpath.specs.Meaning as tree
 use Rattle.iris_xpath.specs.Syntax.{Syntax}
 use Rattle.iris_xpath.specs.Thin.{Equals, Main}
 use Rattle.iris_xpath.specs.ThinMeaning.{is_text, holds, fits, selected}
 use Rattle.iris_xpath.specs.ThinQuery.{is_thin, thin_of}
 use Rattle.iris_xpath.specs.Walk.{led_to, all_led_to}
-use Rattle.iris_xpath.proofs.Meant.{led_is}
+use Rattle.iris_xpath.proofs.Walk.{led_is}
 use Rattle.iris_xpath.proofs.ThinQuery.{selected_thin}
 use Rattle.iris_need.specs.declared.need.State.{State}
 use Rattle.iris_need.specs.declared.need.State.TheVariants as states
-use Rattle.iris_need.specs.Documents.{IsDocument, item_in, items_in}
+use Rattle.iris_tree.specs.Items.{item_at, items_at}
+use Rattle.iris_need.specs.Documents.{IsDocument}
 use Rattle.iris_need.specs.Needs.{from_document}
-use Rattle.iris_need.specs.Program.{each, gather, where_so, and_so, is_id, subtree, program}
+use Rattle.iris_base.specs.Attribute.{is_id}
+use Rattle.iris_need.specs.Program.{each, gather, where_so, and_so, subtree, program}
 use Rattle.iris_need.specs.Run.{Run, eval, ids_in}
 use Rattle.iris_need.proofs.Documents.{Stands, AllStand, children_stand, top_stands, room_is, ids_are, local_is, item_is}
 use Rattle.iris_need.specs.ThinProgram.{has_text, all_have_text, thin_tested, thin_goes, thin_from}
@@ -109,10 +111,10 @@ led_to_is above (node l local below) m (t ∷ ts) = refl
 
 -- the items of the nodes of these names
 abbrev items_named : Node → List (List Label) → List Item
-items_named document names = items_in document (map place_of names)
+items_named document names = items_at document (map place_of names)
 
 named_append : (document : Node) (ms ns : List (List Label)) → items_named document (ms ++ ns) ≡ items_named document ms ++ items_named document ns
-named_append document ms ns = ap (items_in document) (map-append place_of ms ns) ∙ filter_map-append (item_in document) (map place_of ms) (map place_of ns)
+named_append document ms ns = ap (items_at document) (map-append place_of ms ns) ∙ filter_map-append (item_at document) (map place_of ms) (map place_of ns)
 
 named_where : (document : Node) (b : Bool) (names : List (List Label)) → cond b (items_named document names) [] ≡ items_named document (cond b names [])
 named_where document true names = refl
@@ -143,7 +145,7 @@ goes_found document i (m ∷ ms) (node l local below) name levels h =
 
 -- ---- the whole query
 
-from_found : (document : Node) (ms : List Main) → IsDocument document → eval document (thin_from (label_of document) 0 ms) ≡ items_in document (selected document ms)
+from_found : (document : Node) (ms : List Main) → IsDocument document → eval document (thin_from (label_of document) 0 ms) ≡ items_at document (selected document ms)
 from_found document [] h = refl
 from_found document (m ∷ ms) h =
     let top = label_of document ∷ [] in
@@ -151,9 +153,9 @@ from_found document (m ∷ ms) h =
     tested_is document 0 m document top (thin_goes 1 ms top (label_of document)) stands.there
     ∙ ap (λ (xs : List Item). cond (fits (Some (a_node document)) m) xs []) (goes_found document 1 ms document top 15 stands)
     ∙ named_where document (fits (Some (a_node document)) m) (led_on top document ms) ∙ ap (items_named document) (sym (led_to_is [] document m ms))
-    ∙ ap (items_in document) (led_is document h.0 m ms)
+    ∙ ap (items_at document) (led_is document h.0 m ms)
 
 -- over all of a document the program gives the items of what the query selects
-pub eval_is : (document : Node) (query : Syntax) → is_thin query ≡ true → IsDocument document → eval document (program query (from_document (label_of document))) ≡ items_in document (tree.selected document query)
+pub eval_is : (document : Node) (query : Syntax) → is_thin query ≡ true → IsDocument document → eval document (program query (from_document (label_of document))) ≡ items_at document (tree.selected document query)
 eval_is document query thin h =
-    (thin_program_is query (label_of document) thin).answers document ∙ from_found document (thin_of query) h ∙ ap (items_in document) (sym (selected_thin document query thin))
+    (thin_program_is query (label_of document) thin).answers document ∙ from_found document (thin_of query) h ∙ ap (items_at document) (sym (selected_thin document query thin))

@@ -4,14 +4,14 @@ use Rattle.std.specs.List.{list_all, filter_map}
 use Rattle.std.proofs.lemmas.List.{drop-map, take-append-drop}
 use Rattle.std.proofs.lemmas.List.Folds.{list_all-append}
 use Rattle.iris_base.specs.declared.name.Label.{Label}
-use Rattle.iris_json.specs.declared.item.Item.{Item}
+use Rattle.iris_tree.specs.declared.item.Item.{Item}
 use Rattle.iris_xpath.specs.declared.expression.Expression.{Expression}
 use Rattle.iris_fragment.specs.declared.piece.Level.{Level}
 use Rattle.iris_fragment.specs.declared.piece.Level.TheVariants.{Ids, Full}
 use Rattle.iris_fragment.specs.declared.piece.Piece.{Piece}
 use Rattle.iris_xpath.specs.declared.expression.Step.{Step}
 use Rattle.iris_xpath.specs.ThinQuery as thin
-use Rattle.iris_xpath.proofs.Reached.{and_true}
+use Rattle.iris_xpath.proofs.SelectedPlaces.{and_true}
 use Rattle.iris_xpath.specs.Syntax.{Syntax, Condition, condition_of, MainStep, main_of}
 use Rattle.iris_xpath.specs.Thin.{Equals, Main}
 use Rattle.iris_xpath.specs.ThinQuery.{equality, equality_of, whole_step, is_thin, thin_of}

@@ -21,7 +21,8 @@ use Rattle.iris_need.specs.declared.need.Need.{Need}
 use Rattle.iris_need.specs.declared.need.State.{State}
 use Rattle.iris_need.specs.declared.need.State.TheVariants as states
 use Rattle.iris_need.specs.Needs.{from_document}
-use Rattle.iris_need.specs.Program.{gather, join, where_so, and_so, Spot, node_spot, document_spot, room, Marks, from_node, is_id, own_attribute, holds, all_hold, some_end, found, tested_at, tested, goes, go_at, seek_at, test_at, enter, program}
+use Rattle.iris_base.specs.Attribute.{is_id}
+use Rattle.iris_need.specs.Program.{gather, join, where_so, and_so, Spot, node_spot, document_spot, room, Marks, from_node, own_attribute, holds, all_hold, some_end, found, tested_at, tested, goes, go_at, seek_at, test_at, enter, program}
 use Rattle.iris_need.specs.ThinProgram.{has_text, all_have_text, thin_tested, thin_step, thin_goes, thin_from, thin_seeks, thin_goes_on, thin_tests, thin_enter}
 use Rattle.iris_need.specs.Run.{Run, give, see_ids, both, next, Out, View, Seen, ids_known, full_known, after, after_ids, after_full, pair_value, run, eval}
 

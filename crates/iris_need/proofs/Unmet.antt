@@ -14,9 +14,9 @@ use Rattle.iris_fragment.specs.declared.piece.Piece.{Piece}
 use Rattle.iris_fragment.specs.declared.piece.Level.{Level}
 use Rattle.iris_fragment.specs.declared.piece.Level.TheVariants as level
 use Rattle.iris_fragment.proofs.Names.{name_exact, equal_from_is_eq}
-use Rattle.iris_json.specs.declared.item.Item.{Item}
+use Rattle.iris_tree.specs.declared.item.Item.{Item}
 use Rattle.iris_xpath.specs.Syntax.{Syntax}
-use Rattle.iris_xpath.proofs.Reached.{and_true}
+use Rattle.iris_xpath.proofs.SelectedPlaces.{and_true}
 use Rattle.iris_need.specs.declared.need.Need.{Need}
 use Rattle.iris_need.specs.declared.need.Start.{Start}
 use Rattle.iris_need.specs.Run.{Known, View, Out, eval, all_of, ids_in, local_in, no_local, LocalBelow, KnownBelow, Below, meets_known, meets}

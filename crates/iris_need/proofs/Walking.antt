@@ -16,7 +16,7 @@ use Rattle.iris_xpath.specs.declared.expression.Expression.{Expression}
 use Rattle.iris_xpath.specs.Thin.{Equals, Main}
 use Rattle.iris_xpath.specs.ThinMeaning.{is_text}
 use Rattle.iris_xpath.specs.ThinQuery.{equality_of}
-use Rattle.iris_xpath.proofs.Reached.{and_true}
+use Rattle.iris_xpath.proofs.SelectedPlaces.{and_true}
 use Rattle.iris_need.specs.declared.need.Need.{Need}
 use Rattle.iris_need.specs.declared.need.State.{State}
 use Rattle.iris_need.specs.declared.need.State.TheVariants as states
@@ -25,7 +25,8 @@ use Rattle.iris_need.specs.declared.walk.Looks.TheVariants.{Unmet, Met}
 use Rattle.iris_need.specs.Pieces.{Pieces, piece_at, known_of, view_of}
 use Rattle.iris_need.specs.Needs.{with_look, is_under, seen_from}
 use Rattle.iris_need.specs.Run.{Known, View, Run, give, see_ids, see_full, both, next, Out, Seen, ids_known, full_known, seen_with, after, after_ids, after_full, run, meets}
-use Rattle.iris_need.specs.Program.{each, gather, where_so, and_so, is_id, room, node_spot, subtree, found}
+use Rattle.iris_base.specs.Attribute.{is_id}
+use Rattle.iris_need.specs.Program.{each, gather, where_so, and_so, room, node_spot, subtree, found}
 use Rattle.iris_need.specs.ThinProgram.{has_text, all_have_text, thin_tested, thin_goes}
 use Rattle.iris_need.specs.Collected.{taken, take, collected, given, full_in, full_of, full_at, visited}
 

@@ -5,7 +5,7 @@ use Rattle.std.specs.List.Sorted.{IsStrictlySortedBy}
 use Rattle.std.specs.declared.cmp.Ordering.TheVariants.{Less}
 use Rattle.iris_base.specs.declared.name.Label.{Label}
 use Rattle.iris_base.specs.NameOrder.{label_cmp}
-use Rattle.iris_json.specs.declared.item.Item.{Item}
+use Rattle.iris_tree.specs.declared.item.Item.{Item}
 use Rattle.iris_need.specs.Pieces.{Pieces}
 
 -- the ids of each piece rise, as those of every node of a document do

@@ -9,7 +9,7 @@ use Rattle.iris_base.specs.NameOrder.{label_eq, label_cmp}
 use Rattle.iris_tree.specs.Universe.{Node, label_of}
 use Rattle.iris_fragment.specs.declared.piece.Level.{Level}
 use Rattle.iris_fragment.specs.declared.piece.Level.TheVariants.{Ids, Full}
-use Rattle.iris_json.specs.declared.item.Item.{Item}
+use Rattle.iris_tree.specs.declared.item.Item.{Item}
 use Rattle.iris_xpath.specs.Syntax.{Syntax}
 use Rattle.iris_need.specs.declared.need.Need.{Need}
 use Rattle.iris_need.specs.declared.need.Start.{Start}

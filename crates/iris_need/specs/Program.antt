@@ -2,18 +2,19 @@
 use Rattle.std.specs.Prelude.{ℕ, zero, suc, ◌+◌, ◌-◌, Bool, true, false, not, ◌&&◌, ◌||◌, if◌then◌else◌, List, [], ◌∷◌, ◌++◌, length, drop, map, filter, Option, Some, None, option_and_then, slice_get}
 use Rattle.std.specs.List.{list_any, filter_map}
 use Rattle.std.specs.Str.{bytes_eq}
-use Rattle.std.specs.Prelude.{codes}
 use Rattle.std.specs.Cmp.Lexicographic.{pointwise}
 use Rattle.iris_base.specs.declared.name.Label.{Label}
 use Rattle.iris_base.specs.NameOrder.{label_eq}
+use Rattle.iris_base.specs.Attribute.{is_id}
+use Rattle.iris_base.specs.declared.limits.TheConstants.{MAX_LABELS}
 use Rattle.iris_tree.specs.declared.local.Local.{Local}
 use Rattle.iris_tree.specs.Attrs.{value_of}
 use Rattle.iris_tree.specs.Universe.{Node, node, nodes_of, no_nodes}
 use Rattle.iris_tree.specs.Document.{position, label, Place, Part, whole, a_node, a_plain, below_plain, numbered, plain_places}
 use Rattle.iris_fragment.specs.declared.piece.Level.{Level}
 use Rattle.iris_fragment.specs.declared.piece.Level.TheVariants.{Ids, Full}
-use Rattle.iris_json.specs.declared.item.Element.TheVariants as elements
-use Rattle.iris_json.specs.declared.item.Item.{Item}
+use Rattle.iris_tree.specs.declared.item.Element.TheVariants as elements
+use Rattle.iris_tree.specs.declared.item.Item.{Item}
 use Rattle.iris_xpath.specs.declared.expression.Separator.{Separator}
 use Rattle.iris_xpath.specs.declared.expression.Separator.TheVariants.{Slash, DoubleSlash}
 use Rattle.iris_xpath.specs.declared.expression.NameTest.{NameTest}
@@ -56,9 +57,9 @@ pub data Spot : Type 0 where
   node_spot : List Label → Label → Spot
   element_spot : List Label → Local → Place → Spot
 
--- how many levels there may be below a name: it has at most 16 labels
+-- how many levels there may be below a name: it has at most MAX_LABELS labels
 unfoldable pub room : List Label → ℕ
-room name = 16 - length name
+room name = MAX_LABELS - length name
 
 abbrev pub last_label : Label → List Label → Label
 last_label l [] = l
@@ -142,9 +143,6 @@ reach top separator test own lower (element_spot name local above) k = gather (�
 abbrev pub some_end : Option (List ℕ) → List (Option (List ℕ))
 some_end None = []
 some_end (Some value) = Some value ∷ []
-
-abbrev pub is_id : List ℕ → Bool
-is_id name = bytes_eq name (codes "id")
 
 abbrev pub element_ends : List ℕ → Local → List Place → List (Option (List ℕ))
 element_ends attr local paths = map (λ value. Some value) (filter_map (λ path. attribute_at attr (element_at local path)) paths)

@@ -3,12 +3,13 @@ use Rattle.std.specs.Prelude.{ℕ, ◌+◌, Bool, true, false, List, [], ◌∷�
 use Rattle.std.specs.Str.{bytes_eq}
 use Rattle.iris_base.specs.declared.name.Label.{Label}
 use Rattle.iris_tree.specs.Attrs.{value_of}
-use Rattle.iris_json.specs.declared.item.Item.{Item}
+use Rattle.iris_tree.specs.declared.item.Item.{Item}
 use Rattle.iris_xpath.specs.Thin.{Equals, Main}
 use Rattle.iris_xpath.specs.ThinMeaning.{is_text}
 use Rattle.iris_need.specs.declared.need.State.{State}
 use Rattle.iris_need.specs.declared.need.State.TheVariants as states
-use Rattle.iris_need.specs.Program.{gather, where_so, and_so, node_spot, is_id, found}
+use Rattle.iris_base.specs.Attribute.{is_id}
+use Rattle.iris_need.specs.Program.{gather, where_so, and_so, node_spot, found}
 use Rattle.iris_need.specs.Run.{Run, give, see_ids, see_full, next}
 
 -- ---- predicates

@@ -1,26 +1,25 @@
 //! What an evaluation answers where nothing is missing.
-ghost use Rattle.std.specs.Prelude.{◌≡◌, ◌+◌, ◌<◌, ◌^◌, ◌∷◌, ◌++◌, [], true, length, IfOk, OnOk};
+ghost use Rattle.std.specs.Prelude.{◌≡◌, ◌+◌, ◌∷◌, ◌++◌, [], true, IfOk, OnOk};
 ghost use Rattle.iris_tree.specs.Universe.{Node, label_of, local_of, children_of, labels_of};
 ghost use Rattle.iris_xpath.specs.Meaning.{selected};
-ghost use Rattle.iris_xpath.specs.ThinQuery.{is_thin, is_thin_step, thin_of};
+ghost use Rattle.iris_xpath.specs.ThinQuery.{thin_of};
 ghost use Rattle.iris_xpath.specs.ThinQuery as thin;
-ghost use Rattle.iris_need.specs.Documents.{IsDocument, items_in};
+ghost use Rattle.iris_tree.specs.Items.{items_at};
+ghost use Rattle.iris_need.specs.Documents.{IsDocument};
 ghost use Rattle.iris_need.specs.Pieces.{Agrees};
 ghost use Rattle.iris_need.specs.Needs.{is_under, missing_of, from_document};
 ghost use Rattle.iris_need.specs.Program.{subtree, found, node_spot};
-ghost use Rattle.iris_need.specs.ThinProgram.{thin_tested, thin_step, thin_goes, thin_from};
+ghost use Rattle.iris_need.specs.ThinProgram.{thin_tested, thin_goes, thin_from};
 ghost use Rattle.iris_need.specs.Collected.{given, visited};
 ghost use Rattle.iris_need.specs.Answers.{AreRising, AreBefore, items_if, found_after};
 
-use crate::evaluate::steps_of;
 use crate::need::State;
 use crate::needs::Needs;
+use crate::route::Route;
 use crate::view::View;
 use crate::walk::{Looks, Walk, is_of_kind, room};
-use iris_base::{Label, Mem, Memory, Name};
-use iris_json::{Element, Item};
-use iris_tree::{InsertError, Tree};
-use iris_xpath::{Expression, Query, Step};
+use iris_tree::{Element, InsertError, Item, Label, Mem, Memory, Name, Tree};
+use iris_xpath::Query;
 use std::alloc::Global;
 
 // Adds a node as the last child, where its label is the greatest. Whether it was added.
@@ -89,31 +88,29 @@ impl<'a> Walk<'a> {
         Ok(true)
     }
 
-    // Adds the items to which all steps from a node on lead. Whether the view tells them all.
+    // Adds the items to which the steps after this one lead from a node; after the last the node itself.
+    // Whether the view tells them all.
     #[cycle(finding)]
-    fn find_all(
+    fn find_after(
         &self,
         alloc: Global,
-        i: u32,
-        steps: &[Step<Expression>],
+        route: &Route,
         label: Label,
         name: &mut Name,
         items: &mut Vec<Item>,
     ) -> Mem<bool>
-        requires few { i + length steps.now < 2 ^ 32 }
-        requires thin { is_thin steps.now ≡ true }
         requires under { is_under name.old self.now.above.now ≡ true }
-        ensures items { IfOk result (λ told. AreRising self.now.view.now → items_if told items.new.items ≡ found_after items.old.items (given self.now.above.now self.now.view.now (thin_goes i (thin_of steps.now) name.old label))) }
+        ensures items { IfOk result (λ told. AreRising self.now.view.now → items_if told items.new.items ≡ found_after items.old.items (given self.now.above.now self.now.view.now (thin_goes (route.now.number + 1) (thin_of route.now.rest.now) name.old label))) }
         ensures name { OnOk result (name.new ≡ name.old) }
     {
-        let Some((step, rest)) = steps.split_first() else {
+        let Some(next) = route.next() else {
             return self.add_item(alloc, label, name, items);
         };
         let Some(piece) = self.view.get(name) else {
             return Ok(false);
         };
         for child in piece.ids.as_slice() {
-            if !self.find_at(alloc, i, step, rest, *child, name, items)? {
+            if !self.find_at_child(alloc, &next, *child, name, items)? {
                 return Ok(false);
             }
         }
@@ -122,79 +119,62 @@ impl<'a> Walk<'a> {
 
     // Adds the items to which a step and those after it lead by one child.
     #[cycle(finding)]
-    fn find_at(
+    fn find_at_child(
         &self,
         alloc: Global,
-        i: u32,
-        step: &Step<Expression>,
-        rest: &[Step<Expression>],
+        route: &Route,
         child: Label,
         name: &mut Name,
         items: &mut Vec<Item>,
     ) -> Mem<bool>
-        requires few { i + length rest.now + 1 < 2 ^ 32 }
-        requires thin { is_thin_step step.now ≡ true }
-        requires further { is_thin rest.now ≡ true }
         requires under { is_under (name.old ++ child ∷ []) self.now.above.now ≡ true }
-        ensures items { IfOk result (λ told. AreRising self.now.view.now → items_if told items.new.items ≡ found_after items.old.items (given self.now.above.now self.now.view.now (visited i (thin.thin_step step.now) (thin_of rest.now) name.old child))) }
+        ensures items { IfOk result (λ told. AreRising self.now.view.now → items_if told items.new.items ≡ found_after items.old.items (given self.now.above.now self.now.view.now (visited route.now.number (thin.thin_step route.now.step.now) (thin_of route.now.rest.now) name.old child))) }
         ensures name { OnOk result (name.new ≡ name.old) }
     {
-        if !is_of_kind(step, &child) {
+        if !is_of_kind(route, &child) {
             return Ok(true);
         }
         name.push(child)?;
-        let told = self.find_from(alloc, i, step, rest, child, name, items)?;
+        let told = self.find_where_tested(alloc, route, child, name, items)?;
         name.pop();
         Ok(told)
     }
 
     // Tests a node by the predicates of a step, and adds the items from it on where they hold.
     #[cycle(finding)]
-    fn find_from(
+    fn find_where_tested(
         &self,
         alloc: Global,
-        i: u32,
-        step: &Step<Expression>,
-        rest: &[Step<Expression>],
+        route: &Route,
         label: Label,
         name: &mut Name,
         items: &mut Vec<Item>,
     ) -> Mem<bool>
-        requires few { i + length rest.now + 1 < 2 ^ 32 }
-        requires thin { is_thin_step step.now ≡ true }
-        requires further { is_thin rest.now ≡ true }
         requires under { is_under name.old self.now.above.now ≡ true }
-        ensures items { IfOk result (λ told. AreRising self.now.view.now → items_if told items.new.items ≡ found_after items.old.items (given self.now.above.now self.now.view.now (thin_tested i (thin.thin_step step.now) name.old label (thin_goes (i + 1) (thin_of rest.now) name.old label)))) }
+        ensures items { IfOk result (λ told. AreRising self.now.view.now → items_if told items.new.items ≡ found_after items.old.items (given self.now.above.now self.now.view.now (thin_tested route.now.number (thin.thin_step route.now.step.now) name.old label (thin_goes (route.now.number + 1) (thin_of route.now.rest.now) name.old label)))) }
         ensures name { OnOk result (name.new ≡ name.old) }
     {
         let mut needs = Needs::new(alloc);
-        let predicates = step.predicates.as_slice();
-        let holds = self.all_hold(State::Test(i), &label, name, predicates, &mut needs)?;
+        let predicates = route.step.predicates.as_slice();
+        let state = State::Test(route.number);
+        let holds = self.all_hold(state, &label, name, predicates, &mut needs)?;
         match holds {
-            Some(true) => self.find_all(alloc, i + 1, rest, label, name, items),
+            Some(true) => self.find_after(alloc, route, label, name, items),
             Some(false) => Ok(true),
             None => Ok(false),
         }
     }
 
-    // Adds the items to which steps lead from the document on. Whether the view tells them all.
-    fn answer(
-        &self,
-        alloc: Global,
-        steps: &[Step<Expression>],
-        top: Label,
-        items: &mut Vec<Item>,
-    ) -> Mem<bool>
-        requires few { length steps.now < 2 ^ 32 }
-        requires thin { is_thin steps.now ≡ true }
+    // Adds the items to which all steps lead from the document on. Whether the view tells them all.
+    fn find_from_document(&self, alloc: Global, top: Label, items: &mut Vec<Item>) -> Mem<bool>
         requires everything { self.now.above.now ≡ [] }
-        ensures { IfOk result (λ told. AreRising self.now.view.now → items_if told items.new.items ≡ found_after items.old.items (given self.now.above.now self.now.view.now (thin_from top 0 (thin_of steps.now)))) }
+        ensures { IfOk result (λ told. AreRising self.now.view.now → items_if told items.new.items ≡ found_after items.old.items (given self.now.above.now self.now.view.now (thin_from top 0 (thin_of self.now.steps.now)))) }
     {
-        let Some((step, rest)) = steps.split_first() else {
+        let Some(route) = self.route_at(0) else {
             return Ok(true);
         };
         let mut name = Name::document(alloc);
-        self.find_at(alloc, 0, step, rest, top, &mut name, items)
+        self.find_at_child(alloc, &route, top, &mut name, items)
     }
 }
 
@@ -202,16 +182,16 @@ impl<'a> Walk<'a> {
 /// nothing is missing from the document on. `top` is the label of its top node.
 pub fn answer_of(alloc: Global, query: &Query, top: &Label, view: &View) -> Mem<Vec<Item>>
     requires whole { missing_of query.now (from_document top.now) view.now ≡ [] }
-    ensures determined { IfOk result (λ items. (document : Node) → IsDocument document → label_of document ≡ top.now → Agrees document view.now → items.items ≡ items_in document (selected document query.now)) }
+    ensures determined { IfOk result (λ items. (document : Node) → IsDocument document → label_of document ≡ top.now → Agrees document view.now → items.items ≡ items_at document (selected document query.now)) }
 {
-    let steps = steps_of(query)?;
     let document = Name::document(alloc);
     let walk = Walk {
         view,
+        steps: query.steps(),
         above: &document,
         takes: Looks::Unmet,
     };
     let mut items = Vec::new(alloc);
-    walk.answer(alloc, steps, *top, &mut items)?;
+    walk.find_from_document(alloc, *top, &mut items)?;
     Ok(items)
 }

@@ -1,8 +1,7 @@
 //! What an evaluation from a start lacks, and what it rests on.
-ghost use Rattle.std.specs.Prelude.{◌≡◌, ◌+◌, ◌<◌, ◌^◌, ◌∷◌, [], true, length, drop, Some, None, IfOk, OnOk, MatchOption, option_to_list};
+ghost use Rattle.std.specs.Prelude.{◌≡◌, [], true, drop, IfOk, OnOk};
 ghost use Rattle.iris_fragment.specs.declared.piece.Level.{Level};
-ghost use Rattle.iris_xpath.specs.ThinQuery.{is_thin, is_thin_step, thin_of};
-ghost use Rattle.iris_xpath.specs.ThinQuery as thin;
+ghost use Rattle.iris_xpath.specs.ThinQuery.{thin_of};
 ghost use Rattle.iris_need.specs.Needs.{is_under, missing_of, support_of};
 ghost use Rattle.iris_need.specs.Program.{gather, own_look, last_label, program};
 ghost use Rattle.iris_need.specs.ThinProgram.{thin_enter, thin_from};
@@ -13,149 +12,102 @@ use crate::need::{Need, Start, State};
 use crate::needs::Needs;
 use crate::view::View;
 use crate::walk::{Looks, Walk};
-use iris_base::{Label, Mem, Memory, Name};
 use iris_fragment::Level;
-use iris_xpath::{Expression, Query, Step};
+use iris_tree::{Label, Mem, Name};
+use iris_xpath::Query;
 use std::alloc::Global;
 
-// The step of that number and those after it; none where there is no such step.
-fn step_at(steps: &[Step<Expression>], i: u32) -> Option<(&Step<Expression>, &[Step<Expression>])>
-    requires { is_thin steps.now ≡ true }
-    ensures cut { MatchOption result (drop i (thin_of steps.now) ≡ []) (λ r. drop i (thin_of steps.now) ≡ thin.thin_step r.0.now ∷ thin_of r.1.now) }
-    ensures thin { MatchOption result (Unit {0}) (λ r. (is_thin_step r.0.now ≡ true) × (is_thin r.1.now ≡ true)) }
-    ensures count { MatchOption result (Unit {0}) (λ r. i + length r.1.now + 1 ≡ length steps.now) }
-{
-    let i = i as usize;
-    if i >= steps.len() {
-        return None;
-    }
-    Some((&steps[i], &steps[i + 1..]))
-}
-
 impl<'a> Walk<'a> {
-    // Goes on from a node by the step of that number.
-    fn go_on(
-        &self,
-        state: State,
-        i: u32,
-        steps: &[Step<Expression>],
-        name: &mut Name,
-        needs: &mut Needs,
-    ) -> Mem<()>
-        requires few { length steps.now < 2 ^ 32 }
-        requires thin { is_thin steps.now ≡ true }
+    // Takes the step of that number from a node, with the state that was asked for.
+    fn resume_step(&self, state: State, i: u32, name: &mut Name, needs: &mut Needs) -> Mem<()>
         requires under { is_under name.old self.now.above.now ≡ true }
-        ensures looks { OnOk result (needs.new ≡ collected self.now.takes self.now.above.now self.now.view.now needs.old (entered state i (drop i (thin_of steps.now)) name.old)) }
+        ensures looks { OnOk result (needs.new ≡ collected self.now.takes self.now.above.now self.now.view.now needs.old (entered state i (drop i (thin_of self.now.steps.now)) name.old)) }
         ensures name { OnOk result (name.new ≡ name.old) }
     {
-        match step_at(steps, i) {
-            Some((step, rest)) => self.go(state, i, step, rest, name, needs),
+        match self.route_at(i) {
+            Some(route) => self.take_step(state, &route, name, needs),
             None => Ok(()),
         }
     }
 
-    // What a state does at a node.
-    fn enter(
+    // Goes on at a node as a state says.
+    fn resume_state(
         &self,
         state: State,
-        steps: &[Step<Expression>],
         label: &Label,
         name: &mut Name,
         needs: &mut Needs,
     ) -> Mem<()>
-        requires few { length steps.now < 2 ^ 32 }
-        requires thin { is_thin steps.now ≡ true }
         requires under { is_under name.old self.now.above.now ≡ true }
-        ensures looks { OnOk result (needs.new ≡ collected self.now.takes self.now.above.now self.now.view.now needs.old (thin_enter (thin_of steps.now) name.old label.now state)) }
+        ensures looks { OnOk result (needs.new ≡ collected self.now.takes self.now.above.now self.now.view.now needs.old (thin_enter (thin_of self.now.steps.now) name.old label.now state)) }
         ensures name { OnOk result (name.new ≡ name.old) }
     {
         match state {
-            State::At(i) => self.go_on(state, i, steps, name, needs),
-            State::Seek(i) => self.go_on(state, i, steps, name, needs),
-            State::Test(i) => match step_at(steps, i) {
-                Some((step, rest)) => self.follow(i, step, rest, *label, name, needs),
+            State::At(i) => self.resume_step(state, i, name, needs),
+            State::Seek(i) => self.resume_step(state, i, name, needs),
+            State::Test(i) => match self.route_at(i) {
+                Some(route) => self.test_node(&route, *label, name, needs),
                 None => Ok(()),
             },
             State::Whole => self.whole(*label, name, needs),
         }
     }
 
-    // Goes by the steps from that number on to the top node.
-    fn go_top(
-        &self,
-        top: Label,
-        i: u32,
-        steps: &[Step<Expression>],
-        name: &mut Name,
-        needs: &mut Needs,
-    ) -> Mem<()>
-        requires few { length steps.now < 2 ^ 32 }
-        requires thin { is_thin steps.now ≡ true }
+    // Takes the step of that number from the document to the top node.
+    fn step_from_document(&self, top: Label, i: u32, name: &mut Name, needs: &mut Needs) -> Mem<()>
         requires document { name.old ≡ [] }
         requires everything { self.now.above.now ≡ [] }
-        ensures looks { OnOk result (needs.new ≡ collected self.now.takes self.now.above.now self.now.view.now needs.old (thin_from top i (drop i (thin_of steps.now)))) }
+        ensures looks { OnOk result (needs.new ≡ collected self.now.takes self.now.above.now self.now.view.now needs.old (thin_from top i (drop i (thin_of self.now.steps.now)))) }
         ensures name { OnOk result (name.new ≡ name.old) }
     {
-        match step_at(steps, i) {
-            Some((step, rest)) => self.visit(i, step, rest, top, name, needs),
+        match self.route_at(i) {
+            Some(route) => self.step_to_child(&route, top, name, needs),
             None => Ok(()),
         }
     }
 
-    // Tests the predicates of the step of that number at the document, where none holds.
-    fn test_top(
-        &self,
-        top: Label,
-        i: u32,
-        steps: &[Step<Expression>],
-        name: &mut Name,
-        needs: &mut Needs,
-    ) -> Mem<()>
-        requires few { length steps.now < 2 ^ 32 }
-        requires thin { is_thin steps.now ≡ true }
+    // Tests the predicates of the step of that number at the document, where none holds, and goes on.
+    fn test_document(&self, top: Label, i: u32, name: &mut Name, needs: &mut Needs) -> Mem<()>
         requires document { name.old ≡ [] }
         requires everything { self.now.above.now ≡ [] }
-        ensures looks { OnOk result (needs.new ≡ collected self.now.takes self.now.above.now self.now.view.now needs.old (top_tests top i (drop i (thin_of steps.now)))) }
+        ensures looks { OnOk result (needs.new ≡ collected self.now.takes self.now.above.now self.now.view.now needs.old (top_tests top i (drop i (thin_of self.now.steps.now)))) }
         ensures name { OnOk result (name.new ≡ name.old) }
     {
-        let Some((step, rest)) = step_at(steps, i) else {
+        let Some(route) = self.route_at(i) else {
             return Ok(());
         };
-        if !step.predicates.is_empty() {
+        if !route.step.predicates.is_empty() {
             return Ok(());
         }
-        let Some((next, further)) = rest.split_first() else {
+        let Some(next) = route.next() else {
             return Ok(());
         };
-        self.visit(i + 1, next, further, top, name, needs)
+        self.step_to_child(&next, top, name, needs)
     }
 
-    // What a state does at the document.
-    fn enter_top(
+    // Goes on at the document as a state says.
+    fn resume_at_document(
         &self,
         state: State,
         top: &Label,
-        steps: &[Step<Expression>],
         name: &mut Name,
         needs: &mut Needs,
     ) -> Mem<()>
-        requires few { length steps.now < 2 ^ 32 }
-        requires thin { is_thin steps.now ≡ true }
         requires document { name.old ≡ [] }
         requires everything { self.now.above.now ≡ [] }
-        ensures looks { OnOk result (needs.new ≡ collected self.now.takes self.now.above.now self.now.view.now needs.old (top_enter top.now (thin_of steps.now) state)) }
+        ensures looks { OnOk result (needs.new ≡ collected self.now.takes self.now.above.now self.now.view.now needs.old (top_enter top.now (thin_of self.now.steps.now) state)) }
         ensures name { OnOk result (name.new ≡ name.old) }
     {
         match state {
-            State::At(i) => self.go_top(*top, i, steps, name, needs),
-            State::Seek(i) => self.go_top(*top, i, steps, name, needs),
-            State::Test(i) => self.test_top(*top, i, steps, name, needs),
+            State::At(i) => self.step_from_document(*top, i, name, needs),
+            State::Seek(i) => self.step_from_document(*top, i, name, needs),
+            State::Test(i) => self.test_document(*top, i, name, needs),
             State::Whole => Ok(()),
         }
     }
 
-    // The look at the start's own node.
-    fn look_at(&self, name: &Name, level: Level, needs: &mut Needs) -> Mem<()>
+    // Looks at the start's own node.
+    fn look_at_start(&self, name: &Name, level: Level, needs: &mut Needs) -> Mem<()>
         requires under { is_under name.now self.now.above.now ≡ true }
         ensures { OnOk result (needs.new ≡ collected self.now.takes self.now.above.now self.now.view.now needs.old (own_look name.now level)) }
     {
@@ -170,75 +122,54 @@ impl<'a> Walk<'a> {
         Ok(())
     }
 
-    // All states of a start at the document.
-    fn enter_all_top(
+    // Goes on at the document as each state of a start says.
+    fn resume_all_at_document(
         &self,
         states: &[State],
         top: &Label,
-        steps: &[Step<Expression>],
         name: &mut Name,
         needs: &mut Needs,
     ) -> Mem<()>
-        requires few { length steps.now < 2 ^ 32 }
-        requires thin { is_thin steps.now ≡ true }
         requires document { name.old ≡ [] }
         requires everything { self.now.above.now ≡ [] }
-        ensures { OnOk result (needs.new ≡ collected self.now.takes self.now.above.now self.now.view.now needs.old (gather (top_enter top.now (thin_of steps.now)) states.now)) }
+        ensures { OnOk result (needs.new ≡ collected self.now.takes self.now.above.now self.now.view.now needs.old (gather (top_enter top.now (thin_of self.now.steps.now)) states.now)) }
     {
         for state in states {
-            self.enter_top(*state, top, steps, name, needs)?;
+            self.resume_at_document(*state, top, name, needs)?;
         }
         Ok(())
     }
 
-    // All states of a start at a node.
-    fn enter_all(
+    // Goes on at a node as each state of a start says.
+    fn resume_all(
         &self,
         states: &[State],
-        steps: &[Step<Expression>],
         label: &Label,
         name: &mut Name,
         needs: &mut Needs,
     ) -> Mem<()>
-        requires few { length steps.now < 2 ^ 32 }
-        requires thin { is_thin steps.now ≡ true }
         requires under { is_under name.old self.now.above.now ≡ true }
-        ensures { OnOk result (needs.new ≡ collected self.now.takes self.now.above.now self.now.view.now needs.old (gather (thin_enter (thin_of steps.now) name.old label.now) states.now)) }
+        ensures { OnOk result (needs.new ≡ collected self.now.takes self.now.above.now self.now.view.now needs.old (gather (thin_enter (thin_of self.now.steps.now) name.old label.now) states.now)) }
     {
         for state in states {
-            self.enter(*state, steps, label, name, needs)?;
+            self.resume_state(*state, label, name, needs)?;
         }
         Ok(())
     }
 
-    // The whole evaluation from a start.
-    fn evaluate(&self, steps: &[Step<Expression>], start: &Start, needs: &mut Needs) -> Mem<()>
-        requires few { length steps.now < 2 ^ 32 }
-        requires thin { is_thin steps.now ≡ true }
+    // Evaluates from a start.
+    fn evaluate(&self, start: &Start, needs: &mut Needs) -> Mem<()>
         requires above { self.now.above.now ≡ start.now.name }
-        ensures { OnOk result (needs.new ≡ collected self.now.takes self.now.above.now self.now.view.now needs.old (program steps.now start.now)) }
+        ensures { OnOk result (needs.new ≡ collected self.now.takes self.now.above.now self.now.view.now needs.old (program self.now.steps.now start.now)) }
     {
         let states = start.states.as_slice();
         let mut name = start.name.copy()?;
         let Some((label, _)) = start.name.as_slice().split_last() else {
-            return self.enter_all_top(states, &start.top, steps, &mut name, needs);
+            return self.resume_all_at_document(states, &start.top, &mut name, needs);
         };
-        self.look_at(&name, start.level, needs)?;
-        self.enter_all(states, steps, label, &mut name, needs)
+        self.look_at_start(&name, start.level, needs)?;
+        self.resume_all(states, label, &mut name, needs)
     }
-}
-
-// The steps of a query. They are counted in 32 bits, and no memory holds more.
-pub(crate) fn steps_of(query: &Query) -> Mem<&[Step<Expression>]>
-    ensures value { IfOk result (λ steps. steps.now ≡ query.now) }
-    ensures few { IfOk result (λ steps. length steps.now < 2 ^ 32) }
-    ensures thin { is_thin query.now ≡ true }
-{
-    let steps = query.steps();
-    if u32::try_from(steps.len()).is_err() {
-        return Err(Memory);
-    }
-    Ok(steps)
 }
 
 /// What an evaluation from a start lacks: of each look that the view doesn't meet the name, the level and
@@ -246,14 +177,14 @@ pub(crate) fn steps_of(query: &Query) -> Mem<&[Step<Expression>]>
 pub fn missing(alloc: Global, query: &Query, start: &Start, view: &View) -> Mem<Vec<Need>>
     ensures { IfOk result (λ needs. needs.items ≡ missing_of query.now start.now view.now) }
 {
-    let steps = steps_of(query)?;
     let mut needs = Needs::new(alloc);
     let walk = Walk {
         view,
+        steps: query.steps(),
         above: &start.name,
         takes: Looks::Unmet,
     };
-    walk.evaluate(steps, start, &mut needs)?;
+    walk.evaluate(start, &mut needs)?;
     needs.into_vec()
 }
 
@@ -262,13 +193,13 @@ pub fn missing(alloc: Global, query: &Query, start: &Start, view: &View) -> Mem<
 pub fn support(alloc: Global, query: &Query, start: &Start, view: &View) -> Mem<Vec<Need>>
     ensures { IfOk result (λ needs. needs.items ≡ support_of query.now start.now view.now) }
 {
-    let steps = steps_of(query)?;
     let mut needs = Needs::new(alloc);
     let walk = Walk {
         view,
+        steps: query.steps(),
         above: &start.name,
         takes: Looks::Met,
     };
-    walk.evaluate(steps, start, &mut needs)?;
+    walk.evaluate(start, &mut needs)?;
     needs.into_vec()
 }

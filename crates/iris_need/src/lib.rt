@@ -7,6 +7,7 @@ mod evaluate;
 mod laws;
 mod need;
 mod needs;
+mod route;
 #[cfg(test)]
 mod tests;
 mod thin_laws;

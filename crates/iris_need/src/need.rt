@@ -2,8 +2,8 @@
 ghost use Rattle.std.specs.Prelude.{◌≡◌, IfOk};
 ghost use Rattle.iris_need.specs.Needs.{from_document};
 
-use iris_base::{Label, Mem, Name, Sequence};
 use iris_fragment::Level;
+use iris_tree::{Label, Mem, Name, Sequence};
 use std::alloc::Global;
 
 /// How an evaluation stands at a node. Steps are numbered from 0. States are ordered as they stand here,

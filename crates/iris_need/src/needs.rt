@@ -4,8 +4,8 @@ ghost use Rattle.std.specs.List.{insert};
 ghost use Rattle.iris_need.specs.Needs.{greater, with_state, with_look};
 
 use crate::need::{Need, State};
-use iris_base::{Mem, Name, Sequence};
 use iris_fragment::Level;
+use iris_tree::{Mem, Name, Sequence};
 use std::alloc::Global;
 use std::cmp::Ordering;
 use std::collections::BTreeMap;

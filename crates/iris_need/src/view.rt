@@ -3,9 +3,8 @@ ghost use Rattle.std.specs.Prelude.{◌≡◌, [], Some, None, IfOk, OnOk, OnErr
 ghost use Rattle.iris_need.specs.Pieces.{piece_at, pieces_in, first_full, with_piece};
 ghost use Rattle.iris_need.specs.Collected.{full_at};
 
-use iris_base::{Label, Mem, Name};
 use iris_fragment::{Full, Piece};
-use iris_tree::Local;
+use iris_tree::{Label, Local, Mem, Name};
 use std::alloc::Global;
 use std::collections::BTreeMap;
 use std::marker::Model;

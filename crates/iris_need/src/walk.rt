@@ -1,25 +1,27 @@
 //! What an evaluation of a thin query looks at.
-ghost use Rattle.std.specs.Prelude.{◌≡◌, ◌+◌, ◌<◌, ◌^◌, ◌&&◌, ◌∷◌, ◌++◌, [], true, length, drop, map, Some, None, IfOk, OnOk, MatchOption, is_some, option_copied, option_to_list};
+ghost use Rattle.std.specs.Prelude.{◌≡◌, ◌+◌, ◌≤◌, ◌∷◌, ◌++◌, [], true, length, drop, Some, None, IfOk, IfSome, OnOk, MatchOption, is_some, option_copied, option_to_list};
 ghost use Rattle.std.specs.List.{list_all, filter_map};
 ghost use Rattle.std.specs.Str.{bytes_eq};
 ghost use Rattle.iris_tree.specs.Attrs.{value_of};
 ghost use Rattle.iris_xpath.specs.ThinMeaning.{is_text};
 ghost use Rattle.iris_fragment.specs.declared.piece.Level.{Level};
-ghost use Rattle.iris_xpath.specs.ThinQuery.{equality_of, is_thin, is_thin_step, thin_of};
+ghost use Rattle.iris_base.specs.declared.limits.TheConstants.{MAX_STEPS};
+ghost use Rattle.iris_xpath.specs.ThinQuery.{equality_of, is_thin, thin_of};
 ghost use Rattle.iris_xpath.specs.ThinQuery as thin;
 ghost use Rattle.iris_need.specs.Pieces.{piece_at, view_of};
 ghost use Rattle.iris_need.specs.Needs.{is_under};
 ghost use Rattle.iris_need.specs.Run.{meets};
-ghost use Rattle.iris_need.specs.Program.{is_id, room, subtree, found, node_spot};
+ghost use Rattle.iris_base.specs.Attribute.{is_id};
+ghost use Rattle.iris_need.specs.Program.{room, subtree, found, node_spot};
 ghost use Rattle.iris_need.specs.ThinProgram.{has_text, all_have_text, thin_tested, thin_step, thin_goes};
 ghost use Rattle.iris_need.specs.Collected.{take, collected, given, full_at, visited};
 
 use crate::need::State;
 use crate::needs::Needs;
+use crate::route::Route;
 use crate::view::View;
-use iris_base::{Label, Mem, Name};
 use iris_fragment::{Level, Piece};
-use iris_tree::Local;
+use iris_tree::{Label, Local, MAX_LABELS, Mem, Name, is_id};
 use iris_xpath::{Expression, Step};
 
 /// Which looks are collected.
@@ -31,19 +33,19 @@ pub(crate) enum Looks {
     Met,
 }
 
-/// A walk over a view, from one name down.
+/// A walk over a view by the steps of a query, from one name down.
 #[derive(Clone, Copy)]
 pub(crate) struct Walk<'a> {
     pub(crate) view: &'a View,
+    pub(crate) steps: &'a [Step<Expression>],
     /// Nothing is looked at but what is at or under this name.
     pub(crate) above: &'a Name,
     pub(crate) takes: Looks,
+    ghost few: { length steps.now ≤ MAX_STEPS },
+    ghost thin: { is_thin steps.now ≡ true },
 }
 
-// How many levels there may be below a name: a name has no more labels than that.
-const MAX_LABELS: usize = 16;
-
-// How many levels there may be below a name.
+// How many levels there may be below a name, which has at most `MAX_LABELS` labels.
 #[tactic(auto, unfolding(crate::specs::Program::room))]
 pub(crate) fn room(name: &Name) -> usize
     ensures { result ≡ room name.now }
@@ -51,19 +53,11 @@ pub(crate) fn room(name: &Name) -> usize
     MAX_LABELS.saturating_sub(name.len())
 }
 
-// Whether it is the name of `@id`, which is told by the label.
-fn is_id(attribute: &str) -> bool
-    ensures { result ≡ is_id attribute.now }
-{
-    attribute == "id"
-}
-
 // Whether a label is of the kind to which a step goes.
-pub(crate) fn is_of_kind(step: &Step<Expression>, label: &Label) -> bool
-    requires { is_thin_step step.now ≡ true }
-    ensures { result ≡ bytes_eq label.now.kind (thin.thin_step step.now).kind }
+pub(crate) fn is_of_kind(route: &Route, label: &Label) -> bool
+    ensures { result ≡ bytes_eq label.now.kind (thin.thin_step route.now.step.now).kind }
 {
-    match step.kind() {
+    match route.step.kind() {
         Some(kind) => label.kind == *kind,
         None => false,
     }
@@ -80,6 +74,14 @@ fn has_value(local: &Local, attribute: &str, value: &str) -> bool
 }
 
 impl<'a> Walk<'a> {
+    // The route from the step of that number on; none where there is no such step.
+    pub(crate) fn route_at(&self, number: u32) -> Option<Route<'a>>
+        ensures cut { MatchOption result (drop number (thin_of self.now.steps.now) ≡ []) (λ r. drop number (thin_of self.now.steps.now) ≡ thin.thin_step r.step.now ∷ thin_of r.rest.now) }
+        ensures from { IfSome result (λ r. r.number ≡ number) }
+    {
+        Route::at(self.steps, number)
+    }
+
     // Takes a look at a name, or leaves it.
     fn note(
         &self,
@@ -215,107 +217,89 @@ impl<'a> Walk<'a> {
         self.subtree(room(name), label, name, needs)
     }
 
-    // Goes by all steps from a node on. Steps are counted from `i` on.
+    // Goes on from a node by the steps after this one; after the last the node is selected.
     #[cycle(walking)]
-    fn goes(
+    fn continue_after(
         &self,
-        i: u32,
-        steps: &[Step<Expression>],
+        route: &Route,
         label: Label,
         name: &mut Name,
         needs: &mut Needs,
     ) -> Mem<()>
-        requires few { i + length steps.now < 2 ^ 32 }
-        requires thin { is_thin steps.now ≡ true }
         requires under { is_under name.old self.now.above.now ≡ true }
-        ensures looks { OnOk result (needs.new ≡ collected self.now.takes self.now.above.now self.now.view.now needs.old (thin_goes i (thin_of steps.now) name.old label)) }
+        ensures looks { OnOk result (needs.new ≡ collected self.now.takes self.now.above.now self.now.view.now needs.old (thin_goes (route.now.number + 1) (thin_of route.now.rest.now) name.old label)) }
         ensures name { OnOk result (name.new ≡ name.old) }
     {
-        let Some((step, rest)) = steps.split_first() else {
-            return self.whole(label, name, needs);
-        };
-        self.go(State::At(i), i, step, rest, name, needs)
+        match route.next() {
+            Some(next) => self.take_step(State::At(next.number), &next, name, needs),
+            None => self.whole(label, name, needs),
+        }
     }
 
-    // Goes by a step to the children of a node, and further on.
+    // Takes a step from a node to its children, and goes on from each that passes it.
     #[cycle(walking)]
-    pub(crate) fn go(
+    pub(crate) fn take_step(
         &self,
         state: State,
-        i: u32,
-        step: &Step<Expression>,
-        rest: &[Step<Expression>],
+        route: &Route,
         name: &mut Name,
         needs: &mut Needs,
     ) -> Mem<()>
-        requires few { i + length rest.now + 1 < 2 ^ 32 }
-        requires thin { is_thin_step step.now ≡ true }
-        requires further { is_thin rest.now ≡ true }
         requires under { is_under name.old self.now.above.now ≡ true }
-        ensures looks { OnOk result (needs.new ≡ collected self.now.takes self.now.above.now self.now.view.now needs.old (thin_step (state ∷ []) i (thin.thin_step step.now) (thin_goes (i + 1) (thin_of rest.now)) name.old)) }
+        ensures looks { OnOk result (needs.new ≡ collected self.now.takes self.now.above.now self.now.view.now needs.old (thin_step (state ∷ []) route.now.number (thin.thin_step route.now.step.now) (thin_goes (route.now.number + 1) (thin_of route.now.rest.now)) name.old)) }
         ensures name { OnOk result (name.new ≡ name.old) }
     {
         let Some(piece) = self.see_ids(name, Some(state), needs)? else {
             return Ok(());
         };
         for child in piece.ids.as_slice() {
-            self.visit(i, step, rest, *child, name, needs)?;
+            self.step_to_child(route, *child, name, needs)?;
         }
         Ok(())
     }
 
-    // Goes by a step to one child, where it is of the kind.
+    // Takes a step to one child, where that is of the kind.
     #[cycle(walking)]
-    pub(crate) fn visit(
+    pub(crate) fn step_to_child(
         &self,
-        i: u32,
-        step: &Step<Expression>,
-        rest: &[Step<Expression>],
+        route: &Route,
         child: Label,
         name: &mut Name,
         needs: &mut Needs,
     ) -> Mem<()>
-        requires few { i + length rest.now + 1 < 2 ^ 32 }
-        requires thin { is_thin_step step.now ≡ true }
-        requires further { is_thin rest.now ≡ true }
         requires under { is_under (name.old ++ child ∷ []) self.now.above.now ≡ true }
-        ensures looks { OnOk result (needs.new ≡ collected self.now.takes self.now.above.now self.now.view.now needs.old (visited i (thin.thin_step step.now) (thin_of rest.now) name.old child)) }
+        ensures looks { OnOk result (needs.new ≡ collected self.now.takes self.now.above.now self.now.view.now needs.old (visited route.now.number (thin.thin_step route.now.step.now) (thin_of route.now.rest.now) name.old child)) }
         ensures name { OnOk result (name.new ≡ name.old) }
     {
-        if !is_of_kind(step, &child) {
+        if !is_of_kind(route, &child) {
             return Ok(());
         }
         name.push(child)?;
-        self.follow(i, step, rest, child, name, needs)?;
+        self.test_node(route, child, name, needs)?;
         name.pop();
         Ok(())
     }
 
     // Tests a node by the predicates of a step, and goes on from it where they hold.
     #[cycle(walking)]
-    pub(crate) fn follow(
+    pub(crate) fn test_node(
         &self,
-        i: u32,
-        step: &Step<Expression>,
-        rest: &[Step<Expression>],
+        route: &Route,
         label: Label,
         name: &mut Name,
         needs: &mut Needs,
     ) -> Mem<()>
-        requires few { i + length rest.now + 1 < 2 ^ 32 }
-        requires thin { is_thin_step step.now ≡ true }
-        requires further { is_thin rest.now ≡ true }
         requires under { is_under name.old self.now.above.now ≡ true }
-        ensures looks { OnOk result (needs.new ≡ collected self.now.takes self.now.above.now self.now.view.now needs.old (thin_tested i (thin.thin_step step.now) name.old label (thin_goes (i + 1) (thin_of rest.now) name.old label))) }
+        ensures looks { OnOk result (needs.new ≡ collected self.now.takes self.now.above.now self.now.view.now needs.old (thin_tested route.now.number (thin.thin_step route.now.step.now) name.old label (thin_goes (route.now.number + 1) (thin_of route.now.rest.now) name.old label))) }
         ensures name { OnOk result (name.new ≡ name.old) }
     {
-        let predicates = step.predicates.as_slice();
+        let predicates = route.step.predicates.as_slice();
         let holds = self
-            .all_hold(State::Test(i), &label, name, predicates, needs)?
+            .all_hold(State::Test(route.number), &label, name, predicates, needs)?
             .unwrap_or(false);
         if !holds {
             return Ok(());
         }
-        self.goes(i + 1, rest, label, name, needs)
+        self.continue_after(route, label, name, needs)
     }
 }

@@ -4,7 +4,7 @@ use Rattle.std.proofs.lemmas.Result.{on_ok_weaker, IfOk-weaker}
 use Rattle.iris_xpath.specs.declared.expression.Expression.{Expression}
 use Rattle.iris_xpath.specs.ThinQuery.{equality_of}
 use Rattle.iris_need.specs.declared.need.Need.{Need}
-use Rattle.iris_need.specs.Program.{is_id}
+use Rattle.iris_base.specs.Attribute.{is_id}
 use Rattle.iris_need.specs.ThinProgram.{has_text, all_have_text}
 use Rattle.iris_need.specs.Collected.{collected, given}
 use Rattle.iris_need.proofs.Walking.{empty_is, equalities_are, rest_thin, no_texts, texts_undecided, texts_false, texts_true}

@@ -6,20 +6,20 @@ use Rattle.iris_need.specs.ThinProgram.{thin_step, thin_goes}
 use Rattle.iris_need.specs.Collected.{collected, visited}
 use Rattle.iris_need.proofs.walk.Walk.+walking.Given as goal
 
-abbrev pub decreases-goes : goal.decreases-goes
-decreases-goes l = 4 * length l.steps.now
+abbrev pub decreases-continue_after : goal.decreases-continue_after
+decreases-continue_after l = 4 * length l.route.now.rest.now
 
-abbrev pub decreases-go : goal.decreases-go
-decreases-go l = 4 * length l.rest.now + 3
+abbrev pub decreases-take_step : goal.decreases-take_step
+decreases-take_step l = 4 * length l.route.now.rest.now + 3
 
-abbrev pub decreases-visit : goal.decreases-visit
-decreases-visit l = 4 * length l.rest.now + 2
+abbrev pub decreases-step_to_child : goal.decreases-step_to_child
+decreases-step_to_child l = 4 * length l.route.now.rest.now + 2
 
-abbrev pub decreases-follow : goal.decreases-follow
-decreases-follow l = 4 * length l.rest.now + 1
+abbrev pub decreases-test_node : goal.decreases-test_node
+decreases-test_node l = 4 * length l.route.now.rest.now + 1
 
-abbrev pub invariant-go-loop-child : goal.invariant-go-loop-child
-invariant-go-loop-child l = record {
-  looks : collected l.self.takes l.self.above.now l.self.view.now l.needs (gather (visited l.i (thin.thin_step l.step) (thin_of l.rest) l.fn.name) (drop l.child-index l.child-items)) ≡ collected l.self.takes l.self.above.now l.self.view.now l.fn.needs (thin_step (l.fn.state ∷ []) l.i (thin.thin_step l.step) (thin_goes (l.i + 1) (thin_of l.rest)) l.fn.name);
+abbrev pub invariant-take_step-loop-child : goal.invariant-take_step-loop-child
+invariant-take_step-loop-child l = record {
+  looks : collected l.self.takes l.self.above.now l.self.view.now l.needs (gather (visited l.route.number (thin.thin_step l.route.step.now) (thin_of l.route.rest.now) l.fn.name) (drop l.child-index l.child-items)) ≡ collected l.self.takes l.self.above.now l.self.view.now l.fn.needs (thin_step (l.fn.state ∷ []) l.route.number (thin.thin_step l.route.step.now) (thin_goes (l.route.number + 1) (thin_of l.route.rest.now)) l.fn.name);
   name : l.name ≡ l.fn.name;
 }

@@ -1,6 +1,6 @@
 use Rattle.std.proofs.Common.{◌≡◌, ◌∙◌, ◌++◌, ◌∷◌, [], ℕ, sym, ap, List}
 use Rattle.iris_base.specs.declared.name.Label.{Label}
-use Rattle.iris_json.specs.declared.item.Element.TheVariants as elements
+use Rattle.iris_tree.specs.declared.item.Element.TheVariants as elements
 use Rattle.iris_need.specs.Program.{subtree}
 use Rattle.iris_need.specs.Collected.{given}
 use Rattle.iris_need.specs.Answers.{AreRising}

@@ -1,6 +1,6 @@
 use Rattle.std.proofs.Common.{◌≡◌, ◌∙◌, sym, ap, rules, true, false, ◌∷◌, [], Some, None, Bool}
 use Rattle.std.specs.Str.{bytes_eq}
-use Rattle.iris_need.specs.Program.{is_id}
+use Rattle.iris_base.specs.Attribute.{is_id}
 use Rattle.iris_need.specs.Collected.{full_at}
 use Rattle.iris_need.proofs.Walking.{text_by_id, text_unknown, text_known}
 use Rattle.iris_need.proofs.walk.Walk.has_text.Goals as goal

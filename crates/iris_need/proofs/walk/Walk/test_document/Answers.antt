@@ -6,7 +6,7 @@ use Rattle.iris_need.specs.Starts.{top_tests}
 use Rattle.iris_need.specs.Collected.{collected}
 use Rattle.iris_need.proofs.Walking.{collected_give, empty_is}
 use Rattle.iris_need.proofs.Starts.{has_equality, top_none, top_last}
-use Rattle.iris_need.proofs.walk.Walk.test_top.Goals as goal
+use Rattle.iris_need.proofs.walk.Walk.test_document.Goals as goal
 
 pub returns-in_default-clause-looks : goal.returns-in_default-clause-looks
 returns-in_default-clause-looks c =
@@ -14,9 +14,9 @@ returns-in_default-clause-looks c =
 
 pub returns-then-not-is_empty-clause-looks : goal.returns-then-not-is_empty-clause-looks
 returns-then-not-is_empty-clause-looks c =
-    sym (top_none c.args.self.now.takes c.args.self.now.above.now c.args.self.now.view.now c.args.needs.now c.args.top c.args.i _ (thin_of c.in-Some.rest.now) (thin.thin_step c.in-Some.step.now) c.in-Some.ensures.cut
-    (has_equality c.in-Some.step.now c.is_empty.result c.in-Some.ensures.thin.0 c.is_empty.ensures.1 c.if-not-is_empty.true))
+    sym (top_none c.args.self.now.takes c.args.self.now.above.now c.args.self.now.view.now c.args.needs.now c.args.top c.args.i _ (thin_of c.in-Some.route.rest.now) (thin.thin_step c.in-Some.route.step.now) c.in-Some.ensures.cut
+    (has_equality c.in-Some.route.step.now c.is_empty.result c.in-Some.route.thin c.is_empty.ensures.1 c.if-not-is_empty.true))
 
-pub returns-in_default-split_first-clause-looks : goal.returns-in_default-split_first-clause-looks
-returns-in_default-split_first-clause-looks c =
-    sym (top_last c.args.self.now.takes c.args.self.now.above.now c.args.self.now.view.now c.args.needs.now c.args.top c.args.i _ c.in-Some.step.now c.in-Some.rest.now c.in-Some.ensures.cut (empty_is c.in-Some.rest.now c.in_default-split_first.ensures.cases))
+pub returns-in_default-next-clause-looks : goal.returns-in_default-next-clause-looks
+returns-in_default-next-clause-looks c =
+    sym (top_last c.args.self.now.takes c.args.self.now.above.now c.args.self.now.view.now c.args.needs.now c.args.top c.args.i _ c.in-Some.route.step.now c.in-Some.route.rest.now c.in-Some.ensures.cut c.in_default-next.ensures.cut)

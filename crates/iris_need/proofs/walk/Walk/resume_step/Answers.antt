@@ -3,7 +3,7 @@ use Rattle.iris_xpath.specs.Thin.{Main}
 use Rattle.iris_need.specs.Starts.{entered}
 use Rattle.iris_need.specs.Collected.{collected}
 use Rattle.iris_need.proofs.Walking.{collected_give}
-use Rattle.iris_need.proofs.walk.Walk.go_on.Goals as goal
+use Rattle.iris_need.proofs.walk.Walk.resume_step.Goals as goal
 
 pub returns-in-None-clause-looks : goal.returns-in-None-clause-looks
 returns-in-None-clause-looks c =

@@ -3,7 +3,7 @@ use Rattle.iris_xpath.specs.Thin.{Main}
 use Rattle.iris_need.specs.ThinProgram.{thin_from}
 use Rattle.iris_need.specs.Collected.{collected}
 use Rattle.iris_need.proofs.Walking.{collected_give}
-use Rattle.iris_need.proofs.walk.Walk.go_top.Goals as goal
+use Rattle.iris_need.proofs.walk.Walk.step_from_document.Goals as goal
 
 pub returns-in-None-clause-looks : goal.returns-in-None-clause-looks
 returns-in-None-clause-looks c =
