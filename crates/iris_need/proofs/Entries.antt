@@ -20,7 +20,7 @@ use Rattle.iris_fragment.specs.declared.piece.Level.{Level}
 use Rattle.iris_need.specs.declared.need.Need.{Need}
 use Rattle.iris_need.specs.declared.need.State.{State}
 use Rattle.iris_need.specs.declared.needs.Asked.{Asked}
-use Rattle.iris_need.specs.Pieces.{Pieces, AreNamed, piece_at, joined, with_piece}
+use Rattle.iris_need.specs.Pieces.{Pieces, AreNamed, piece_at, pieces_in, piece_cmp, AreOrderedPieces, joined, with_piece}
 use Rattle.iris_need.specs.Needs.{greater, with_state, with_look}
 use Rattle.iris_need.specs.Collected.{need_of, needs_of}
 
@@ -109,6 +109,19 @@ joined_name (Some v) piece h = sym (h v refl)
 pub with_piece_named : (es : Pieces) (piece : Piece) → AreNamed es → AreNamed (with_piece es piece)
 with_piece_named es piece h =
     named_insert es piece.name (joined (piece_at es piece.name) piece) h (joined_name (piece_at es piece.name) piece (λ v f. found_name es piece.name v (recursion_from_All IsNamed es h) f))
+
+first_piece : (e : List Label × Piece) (es : Pieces) → IsNamed e → AllByRecursion IsNamed es → AllByRecursion (λ k. names_cmp e.0 k ≡ Less) (keys_of es) → AllByRecursion (λ p. piece_cmp e.1 p ≡ Less) (pieces_in es)
+first_piece e [] n h s = tt
+first_piece e (f ∷ es) n h s = (rw (← n, ← h.0) s.0, first_piece e es n h.1 s.1)
+
+pieces_rise : (es : Pieces) → AllByRecursion IsNamed es → IsStrictlySortedBy names_cmp (keys_of es) → AreOrderedPieces (pieces_in es)
+unfolding IsStrictlySortedBy
+pieces_rise [] h s = tt
+pieces_rise (e ∷ es) h s = (first_piece e es h.0 h.1 s.0, pieces_rise es h.1 s.1)
+
+-- the pieces stand in the order of their names
+pub pieces_ordered : (es : Pieces) → AreNamed es → IsStrictlySortedBy names_cmp (keys_of es) → AreOrderedPieces (pieces_in es)
+pieces_ordered es h s = pieces_rise es (recursion_from_All IsNamed es h) s
 
 -- a copy of the pieces, one by one
 pub copied_more : (all so_far left rest new copy : Pieces) (name n : List Label) (piece p : Piece) → IsStrictlySortedBy names_cmp (keys_of all) → all ≡ so_far ++ left → left ≡ (name, piece) ∷ rest → copy ≡ so_far

@@ -3,6 +3,9 @@ use Rattle.std.specs.Prelude.{◌≡◌, List, map, All, Option, Some, None, IfS
 use Rattle.std.specs.Map.{lookup}
 use Rattle.std.specs.BTreeMap.{is_at, insert_entry}
 use Rattle.std.specs.Cmp.Lexicographic.{slice_cmp}
+use Rattle.std.specs.List.Sorted.{IsStrictlySortedBy}
+use Rattle.std.specs.Ordering.{on}
+use Rattle.std.specs.declared.cmp.Ordering.{Ordering}
 use Rattle.iris_base.specs.declared.name.Label.{Label}
 use Rattle.iris_base.specs.NameOrder.{label_cmp}
 use Rattle.iris_tree.specs.Universe.{Node, local_of, ids_of, node_at}
@@ -23,6 +26,14 @@ piece_at pieces name = lookup (is_at (slice_cmp label_cmp name)) pieces
 -- all pieces, in the order of their names
 abbrev pub pieces_in : Pieces → List Piece
 pieces_in pieces = map (λ entry. entry.1) pieces
+
+-- pieces by their names
+abbrev pub piece_cmp : Piece → Piece → Ordering
+piece_cmp = on (λ piece. piece.name) (slice_cmp label_cmp)
+
+-- the names of the pieces rise, so each is there once
+abbrev pub AreOrderedPieces : List Piece → Type 0
+AreOrderedPieces pieces = IsStrictlySortedBy piece_cmp pieces
 
 -- the first full part stays
 abbrev pub first_full : Option Full → Option Full → Option Full

@@ -1,6 +1,6 @@
 //! Views: what is known of a document.
 ghost use Rattle.std.specs.Prelude.{◌≡◌, [], Some, None, IfOk, OnOk, OnErr, option_copied, MatchOption};
-ghost use Rattle.iris_need.specs.Pieces.{piece_at, pieces_in, first_full, with_piece};
+ghost use Rattle.iris_need.specs.Pieces.{piece_at, pieces_in, AreOrderedPieces, first_full, with_piece};
 ghost use Rattle.iris_need.specs.Collected.{full_at};
 
 use iris_fragment::{Full, Piece};
@@ -84,7 +84,8 @@ impl View {
 
     /// Copies of all pieces, in the order of their names.
     pub fn pieces(&self) -> Mem<Vec<Piece>>
-        ensures { IfOk result (λ pieces. pieces.items ≡ pieces_in self.now) }
+        ensures all { IfOk result (λ pieces. pieces.items ≡ pieces_in self.now) }
+        ensures ordered { IfOk result (λ pieces. AreOrderedPieces pieces.items) }
     {
         let mut pieces = Vec::with_capacity(self.alloc, self.map.len())?;
         for piece in self.map.values() {
