@@ -1,2 +1,3 @@
-pub mod Rendered
+pub mod ItemAt
+pub mod Selected
 pub mod Steps

@@ -5,8 +5,8 @@ ghost use Rattle.iris_json.specs.Render.{rendered};
 ghost use Rattle.iris_xpath.specs.Meaning.{selected};
 ghost use Rattle.iris_select.specs.Places.{edges_of, element_at};
 
+use crate::evaluation::evaluate_items;
 use crate::place::Place;
-use crate::walk::select;
 use iris_json::write_items;
 use iris_tree::{Element, Item, Local, Mem, Plain, Tree};
 use iris_xpath::Query;
@@ -70,6 +70,5 @@ pub fn items_at(alloc: Global, tree: &Tree, places: &[Place]) -> Mem<Vec<Item>>
 pub fn answer(alloc: Global, tree: &Tree, query: &Query) -> Mem<Vec<u8>>
     ensures { IfOk result (λ text. text.items ≡ rendered tree.now (selected tree.now query.now)) }
 {
-    let places = select(alloc, tree, query)?;
-    write_items(alloc, &items_at(alloc, tree, &places)?)
+    write_items(alloc, &evaluate_items(alloc, tree, query)?.items)
 }

@@ -1,12 +1,13 @@
 //! What a query selects in a document, and the answer that it gets.
 #![tactic(auto)]
 
+mod evaluation;
 mod items;
 mod place;
 #[cfg(test)]
 mod tests;
 mod walk;
 
+pub use evaluation::{Evaluation, ItemEvaluation, evaluate, evaluate_items, select};
 pub use items::{answer, items_at};
 pub use place::Place;
-pub use walk::{Evaluation, evaluate, select};

@@ -1,8 +1,8 @@
 //! One city, what queries select in it and look into, and their answers.
 
+use crate::evaluation::{evaluate, select};
 use crate::items::{answer, items_at};
 use crate::place::Place;
-use crate::walk::{evaluate, select};
 use iris_json::{read_city, write_items};
 use iris_tree::{
     Attrs, Id, Kind, Label, Local, Name, Plain, Sequence, Tag, Text, TextError, Tree, name_text,

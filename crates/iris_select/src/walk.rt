@@ -1,29 +1,31 @@
 //! The walk that finds what a query selects.
 ghost use Rattle.std.specs.Prelude.{◌≡◌, ◌++◌, ◌∷◌, true, map, Some, IfOk, IfSome, OnOk, codes};
-ghost use Rattle.std.specs.List.Sorted.{IsStrictlySortedBy};
 ghost use Rattle.std.specs.Str.{bytes_eq};
-ghost use Rattle.iris_tree.specs.Universe.{nodes_of, children_of};
-ghost use Rattle.iris_tree.specs.Document.{a_node, place_of};
+ghost use Rattle.iris_tree.specs.Universe.{nodes_of, children_of, IsOrdered};
+ghost use Rattle.iris_tree.specs.Document.{a_node};
+ghost use Rattle.iris_tree.specs.Items.{items_at};
 ghost use Rattle.iris_xpath.specs.Meaning.{selected};
 ghost use Rattle.iris_xpath.specs.ThinMeaning.{holds, fits, tested_with_a_look, full_names};
 ghost use Rattle.iris_xpath.specs.ThinQuery.{is_thin_step, is_thin, thin_step, thin_of};
-ghost use Rattle.iris_xpath.specs.PlaceOrder.{place_cmp};
-ghost use Rattle.iris_select.specs.Places.{edges_of};
-ghost use Rattle.iris_xpath.specs.Walk.{led_to, all_led_to, names_from, looked_at, all_looked_at, IsOnlyFor};
+ghost use Rattle.iris_xpath.specs.Walk.{names_from, looked_at, all_looked_at, IsOnlyFor};
+ghost use Rattle.iris_select.specs.Selected.{place_of_selected, selected_item, items_led_to, all_items_led_to};
 
-use crate::place::Place;
-use iris_tree::{Id, Label, Mem, Name, Sequence, Tree, is_id};
+use iris_tree::{Id, Label, Mem, Name, Tree, is_id};
 use iris_xpath::{Expression, Query, Step};
 use std::alloc::Global;
 
-/// What an evaluation found, and what it looked at.
-#[derive(Debug, Drop)]
-pub struct Evaluation {
-    /// The selected places, in the order of places, each once.
-    pub places: Vec<Place>,
-    /// The names of the nodes whose own attributes or plain elements it looked at, in the order of
-    /// names, each once: those at which it evaluated a predicate on another attribute than `@id`, and
-    /// all at or under a selected place.
+// A selected node, and its name.
+#[derive(Drop)]
+pub struct Selected<'a> {
+    pub name: Name,
+    pub node: &'a Tree,
+}
+
+// What a walk found so far, in the order of names.
+#[derive(Drop)]
+pub struct Found<'a> {
+    pub selected: Vec<Selected<'a>>,
+    // The names of the nodes that were looked at, as those of an `Evaluation`.
     pub full: Vec<Name>,
 }
 
@@ -101,46 +103,48 @@ fn only_label(step: &Step<Expression>) -> Option<Label>
     }
 }
 
-// Adds the names of a node and of all below it.
-fn add_all(alloc: Global, node: &Tree, name: &Name, full: &mut Vec<Name>) -> Mem<()>
-    ensures { OnOk result (full.new.items ≡ full.old.items ++ names_from name.now node.now) }
+// Adds the name of a node, and those of all below it. The name grows and shrinks on the way, so that
+// each is made once.
+fn add_all(node: &Tree, name: &mut Name, full: &mut Vec<Name>) -> Mem<()>
+    ensures name { OnOk result (name.new ≡ name.old) }
+    ensures full { OnOk result (full.new.items ≡ full.old.items ++ names_from name.old node.now) }
 {
     full.push(name.copy()?)?;
     for child in node.children() {
-        add_all(alloc, child, &name.child(*child.label())?, full)?;
+        name.push(*child.label())?;
+        add_all(child, name, full)?;
+        name.pop();
     }
     Ok(())
 }
 
 // Goes on with a step and the further ones at a node whose parent has the name `above`.
 #[cycle(walking)]
-fn visit(
+fn visit<'a>(
     alloc: Global,
-    node: &Tree,
+    node: &'a Tree,
     step: &Step<Expression>,
     rest: &[Step<Expression>],
     above: &Name,
-    found: &mut Evaluation,
+    found: &mut Found<'a>,
 ) -> Mem<()>
     requires thin { is_thin (step.now ∷ rest.now) ≡ true }
-    ensures places { OnOk result (map edges_of found.new.places.items ≡ map edges_of found.old.places.items ++ map place_of (led_to above.now node.now (thin_step step.now) (thin_of rest.now))) }
+    ensures items { OnOk result (map selected_item found.new.selected.items ≡ map selected_item found.old.selected.items ++ items_led_to above.now node.now (thin_step step.now) (thin_of rest.now)) }
     ensures full { OnOk result (found.new.full.items ≡ found.old.full.items ++ looked_at above.now node.now (thin_step step.now) (thin_of rest.now)) }
 {
     let tested = test(node, step);
     if !tested.passes && !tested.looks {
         return Ok(());
     }
-    let name = above.child(*node.label())?;
+    let mut name = above.child(*node.label())?;
     if !tested.passes {
         found.full.push(name)?;
         return Ok(());
     }
     let Some((next, further)) = rest.split_first() else {
-        found.places.push(Place {
-            name: name.copy()?,
-            path: Sequence::new(alloc),
-        })?;
-        return add_all(alloc, node, &name, &mut found.full);
+        add_all(node, &mut name, &mut found.full)?;
+        found.selected.push(Selected { name, node })?;
+        return Ok(());
     };
     if tested.looks {
         found.full.push(name.copy()?)?;
@@ -151,16 +155,16 @@ fn visit(
 // Goes on with a step and the further ones at the children of a node. Where one label alone passes the
 // step or is looked at, no other child is visited.
 #[cycle(walking)]
-fn descend(
+fn descend<'a>(
     alloc: Global,
-    node: &Tree,
+    node: &'a Tree,
     step: &Step<Expression>,
     rest: &[Step<Expression>],
     name: &Name,
-    found: &mut Evaluation,
+    found: &mut Found<'a>,
 ) -> Mem<()>
     requires thin { is_thin (step.now ∷ rest.now) ≡ true }
-    ensures places { OnOk result (map edges_of found.new.places.items ≡ map edges_of found.old.places.items ++ map place_of (all_led_to name.now (nodes_of (children_of node.now)) (thin_step step.now) (thin_of rest.now))) }
+    ensures items { OnOk result (map selected_item found.new.selected.items ≡ map selected_item found.old.selected.items ++ all_items_led_to name.now (nodes_of (children_of node.now)) (thin_step step.now) (thin_of rest.now)) }
     ensures full { OnOk result (found.new.full.items ≡ found.old.full.items ++ all_looked_at name.now (nodes_of (children_of node.now)) (thin_step step.now) (thin_of rest.now)) }
 {
     let children = node.children();
@@ -176,29 +180,22 @@ fn descend(
     Ok(())
 }
 
-/// Evaluates a query from the document on, whose one child is the top node.
-pub fn evaluate(alloc: Global, tree: &Tree, query: &Query) -> Mem<Evaluation>
-    ensures places { IfOk result (λ found. map edges_of found.places.items ≡ selected tree.now query.now) }
-    ensures ordered { IfOk result (λ found. IsStrictlySortedBy place_cmp (map edges_of found.places.items)) }
+// What a query selects and looks at, in one walk from the document on.
+pub fn walk<'a>(alloc: Global, tree: &'a Tree, query: &Query) -> Mem<Found<'a>>
+    ensures ordered { IsOrdered tree.now }
+    ensures places { IfOk result (λ found. map place_of_selected found.selected.items ≡ selected tree.now query.now) }
+    ensures items { IfOk result (λ found. map selected_item found.selected.items ≡ items_at tree.now (selected tree.now query.now)) }
     ensures full { IfOk result (λ found. found.full.items ≡ full_names tree.now query.now) }
 {
-    let mut found = Evaluation {
-        places: Vec::new(alloc),
+    let mut found = Found {
+        selected: Vec::new(alloc),
         full: Vec::new(alloc),
-    };
-    let Some((step, rest)) = query.steps().split_first() else {
-        return Ok(found);
     };
     // What it ensures of the order of siblings is what the meaning rests on.
     let _ = tree.children();
+    let Some((step, rest)) = query.steps().split_first() else {
+        unreachable!()
+    };
     visit(alloc, tree, step, rest, &Name::document(alloc), &mut found)?;
     Ok(found)
-}
-
-/// The places that a query selects, in the order of places, each once (XPath 1.0, 2 and 3.3).
-pub fn select(alloc: Global, tree: &Tree, query: &Query) -> Mem<Vec<Place>>
-    ensures value { IfOk result (λ places. map edges_of places.items ≡ selected tree.now query.now) }
-    ensures ordered { IfOk result (λ places. IsStrictlySortedBy place_cmp (map edges_of places.items)) }
-{
-    Ok(evaluate(alloc, tree, query)?.places)
 }

@@ -4,7 +4,7 @@ use Rattle.iris_tree.specs.declared.local.Local.{Local}
 use Rattle.iris_tree.specs.declared.plain.Plain.{Plain}
 use Rattle.iris_tree.specs.Universe.{local_of}
 use Rattle.iris_select.specs.Places.{element_at}
-use Rattle.iris_select.proofs.Rendered.{plain_item, item_none, item_node, item_plain}
+use Rattle.iris_select.proofs.ItemAt.{plain_item, item_none, item_node, item_plain}
 use Rattle.iris_select.proofs.items.item_at.Goals as goal
 
 pub returns-in_default : goal.returns-in_default

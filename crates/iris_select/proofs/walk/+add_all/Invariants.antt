@@ -10,4 +10,7 @@ decreases-add_all l = size_of l.node.now
 
 -- the names so far, and those that are left, are all
 abbrev pub invariant-loop-child : goal.invariant-loop-child
-invariant-loop-child l = l.full.items ++ map (λ m. l.name ++ m) (all_names_of (nodes_of (drop l.child-index l.child-items))) ≡ l.fn.full.items ++ names_from l.name l.node
+invariant-loop-child l = record {
+  name : l.name ≡ l.fn.name;
+  full : l.full.items ++ map (λ m. l.fn.name ++ m) (all_names_of (nodes_of (drop l.child-index l.child-items))) ≡ l.fn.full.items ++ names_from l.fn.name l.node;
+}

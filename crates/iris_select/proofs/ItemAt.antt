@@ -11,6 +11,7 @@ use Rattle.iris_tree.specs.declared.item.Element.TheVariants as elements
 use Rattle.iris_tree.specs.declared.item.Item.{Item}
 use Rattle.iris_tree.specs.Items.{item_of, item_at}
 use Rattle.iris_select.specs.Places.{kid_at, element_at}
+use Rattle.iris_select.specs.Selected.{node_item}
 
 -- ---- what stands there
 
@@ -49,10 +50,6 @@ name_is (l ∷ name) path = ap (λ ls. l ∷ ls) (name_is name path)
 -- a plain element as an item
 abbrev pub plain_item : List Label → Plain → Item
 plain_item name p = record { at = name; is = elements.Plain p }
-
--- a node as an item
-abbrev pub node_item : List Label → Node → Item
-node_item name n = record { at = name; is = elements.Node n }
 
 -- the item, where the node at the name is known
 abbrev pub item_by : List Label → List ℕ → Option Node → Option Item
