@@ -10,7 +10,7 @@ use Rattle.iris_base.specs.NameOrder.{label_eq, names_equiv}
 use Rattle.iris_tree.specs.declared.local.Local.{Local}
 use Rattle.iris_tree.specs.Universe.{Node}
 use Rattle.iris_tree.specs.Document.{with_locals, local_put, with_local}
-use Rattle.iris_tree.proofs.LocalsPut.{locals_same, locals_then}
+use Rattle.iris_tree.proofs.WithLocals.{locals_same, locals_then}
 use Rattle.iris_book.specs.declared.update.NodeUpdate.{NodeUpdate}
 use Rattle.iris_book.specs.declared.linked.LinkedUpdate.{LinkedUpdate}
 use Rattle.iris_book.specs.Book.{Updates, updates_of, left_by, today_of}

@@ -8,7 +8,7 @@ use Rattle.iris_base.proofs.Labels.{label_eq-Decides}
 use Rattle.iris_tree.specs.declared.local.Local.{Local}
 use Rattle.iris_tree.specs.Universe.{Node, node, Nodes, no_nodes, nodes, list_of, label_of, local_of, child_of, part_at, AllAfter, IsOrdered, AreOrdered}
 use Rattle.iris_tree.specs.Document.{local_at, names_of, all_names_of, with_locals, all_with_locals}
-use Rattle.iris_tree.proofs.LocalsPut.{Locals}
+use Rattle.iris_tree.proofs.WithLocals.{Locals}
 use Rattle.iris_tree.proofs.Siblings.{greater, unequal_label}
 
 -- ---- look-ups among siblings

@@ -14,7 +14,7 @@ use Rattle.iris_book.specs.Book.{History, Updates, with_entry, update_in, update
 use Rattle.iris_book.specs.Change.{after_entry}
 use Rattle.iris_tree.specs.declared.change.Change.{Change}
 use Rattle.iris_tree.specs.Document.{with_local}
-use Rattle.iris_tree.proofs.LocalsPut.{locals_kept}
+use Rattle.iris_tree.proofs.WithLocals.{locals_kept}
 use Rattle.iris_book.proofs.Values.{value_nowhere}
 use Rattle.iris_cli.specs.declared.event.Update.{Update}
 use Rattle.iris_cli.specs.Run.{Held, or_bad_change, changed_at, made_by}

@@ -83,7 +83,7 @@ pub fn put_items(alloc: Global, items: &[Item], out: &mut JsonText) -> Mem<()>
 
 /// The compact text of a node with all below it, as `{"attrs":{},"id":"1","kind":"space","nodes":[],
 /// "plain":[]}`.
-#[tactic(auto, using(iris_tree::proofs::Texts::printed))]
+#[tactic(auto, using(iris_tree::proofs::ValueTokens::printed))]
 pub fn write_tree(alloc: Global, tree: &Tree) -> Mem<Vec<u8>>
     ensures { IfOk result (λ text. text.items ≡ compact_text (node_data tree.now)) }
 {
@@ -93,7 +93,7 @@ pub fn write_tree(alloc: Global, tree: &Tree) -> Mem<Vec<u8>>
 }
 
 /// The compact text of a list of items, each `{"at":NAME,"is":ELEMENT}`.
-#[tactic(auto, using(iris_tree::proofs::Texts::printed))]
+#[tactic(auto, using(iris_tree::proofs::ValueTokens::printed))]
 pub fn write_items(alloc: Global, items: &[Item]) -> Mem<Vec<u8>>
     ensures { IfOk result (λ text. text.items ≡ compact_text (items_data items.now)) }
 {

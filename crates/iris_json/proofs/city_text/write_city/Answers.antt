@@ -1,6 +1,6 @@
 use Rattle.std.proofs.Common.{◌∙◌, ap, refl}
 use Rattle.json.specs.Print.{print}
-use Rattle.iris_tree.proofs.Texts.{printed}
+use Rattle.iris_tree.proofs.ValueTokens.{printed}
 use Rattle.iris_json.specs.CityText.{city_data}
 use Rattle.iris_json.proofs.CityWriting.{city_reads}
 use Rattle.iris_json.proofs.city_text.write_city.Goals as goal

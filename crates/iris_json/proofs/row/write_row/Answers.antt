@@ -2,7 +2,7 @@ use Rattle.std.proofs.Common.{◌≡◌, ◌∷◌, ◌++◌, ◌∙◌, refl, a
 use Rattle.json.specs.Token.{Token}
 use Rattle.json.specs.Print.{print}
 use Rattle.iris_tree.specs.LocalText.{value_tokens}
-use Rattle.iris_tree.proofs.Texts.{printed}
+use Rattle.iris_tree.proofs.ValueTokens.{printed}
 use Rattle.iris_json.specs.Rows.{field_data, fields_of, row_data}
 use Rattle.iris_json.proofs.Written.{member_tokens, fields_more, row_written}
 use Rattle.iris_json.proofs.row.write_row.Goals as goal

@@ -3,7 +3,7 @@ use Rattle.std.specs.Prelude.{slice_index}
 use Rattle.std.proofs.lemmas.Option.{get_or_from_slice_get}
 use Rattle.std.proofs.lemmas.List.{get_or_default}
 use Rattle.iris_tree.specs.Document.{with_local, with_locals}
-use Rattle.iris_tree.proofs.LocalsPut.{locals_kept}
+use Rattle.iris_tree.proofs.WithLocals.{locals_kept}
 use Rattle.iris_book.specs.Book.{today_of}
 use Rattle.iris_book.specs.Linked.{AcceptedUpdates}
 use Rattle.iris_book.proofs.NewestDocument.{put_some, put_step, today_put}
