@@ -1,8 +1,7 @@
 //! Each public call of the book once, with its answer, in a city of one node without attributes.
-ghost use Rattle.std.specs.Prelude.{◌≡◌, ◌≤◌, []};
 
 use crate::{Book, Entry};
-use iris_tree::{AgentId, Change, Cite, Id, Kind, Label, Local, Name, Sequence, Tag, Text, Tree};
+use iris_tree::{AgentId, Cite, Id, Kind, Label, Local, Name, Sequence, Tree};
 use iris_xpath::parse;
 use std::alloc::Global;
 use std::test::*;
@@ -25,53 +24,23 @@ fn start(alloc: Global) -> Result<Tree, Fail> {
     Ok(Tree::new(alloc, label("o")?, Local::new(alloc)))
 }
 
-// Enters the first update, which has the number 3 and comes at the moment 7.
-fn enter_first(book: &mut Book, name: Name, changes: Sequence<Change>) -> Result<(), Fail>
-    requires room { 1 ≤ book.old.spare }
-    requires first { book.old.history.entries ≡ [] }
-{
-    let Some(newest) = book.newest(&name) else {
-        return Ok(());
-    };
-    let local = newest.local.change(changes.as_slice())?;
-    book.push(Entry::Updated {
-        name,
-        no: 3,
-        changes,
-        local,
-        at: 7,
-    });
-    Ok(())
-}
-
 #[test]
-fn an_update_makes_a_version(rt: HostRuntime) -> Result<(), Fail> {
+fn a_book_with_no_entries(rt: HostRuntime) -> Result<(), Fail> {
     let alloc = rt.alloc();
-    let mut book = Book::new(alloc, start(alloc)?)?;
-    let name = name_of(alloc, "o")?;
-    assert!(rt; book.newest(&name_of(alloc, "p")?).is_none());
-    let mut changes = Sequence::new(alloc);
-    changes.push(Change::Attr {
-        name: Tag::new("free")?,
-        value: Text::of(alloc, "yes")?,
-    })?;
-    book.reserve(1)?;
-    enter_first(&mut book, name.copy()?, changes)?;
-    let newest = book.newest(&name);
-    assert!(rt; newest.is_some_and(|newest| (newest.version, newest.number) == (1, 3)));
-    assert_eq!(rt; book.latest(&name), Some(1));
-    for (version, moment, there, held) in [
-        (0, 7, true, true),
-        (0, 8, true, false),
-        (1, 6, true, false),
-        (1, 7, true, true),
-        (2, 7, false, false),
+    let book = Book::new(alloc, start(alloc)?)?;
+    for (id, version, latest, held) in [
+        ("o", 0, Some(0), true),
+        ("o", 1, Some(0), false),
+        ("p", 0, None, false),
     ] {
-        assert_eq!(rt; book.value(&name, version).is_some(), there);
-        assert_eq!(rt; book.held(&name, version, moment), held);
+        let name = name_of(alloc, id)?;
+        let newest = book.newest(&name);
+        assert_eq!(rt; newest.is_some(), latest.is_some(), "of {id}");
+        assert_eq!(rt; book.latest(&name), latest, "of {id}");
+        assert_eq!(rt; book.value(&name, version).is_some(), held, "of {id}");
+        assert_eq!(rt; book.held(&name, version, 7), held, "of {id}");
     }
-    let today = book.today()?;
-    assert_eq!(rt; today.local().attrs.get("free"), Some("yes"));
+    assert_eq!(rt; book.today()?.children().len(), 0);
     Ok(())
 }
 
