@@ -101,13 +101,16 @@ top_stands document h = record { there = top_at document; ordered = h.0; bounded
 
 -- ---- what is seen of a node
 
+-- the room below a node is the number of levels that it leaves
 pub room_is : (document : Node) (name : List Label) (n : Node) (levels : ℕ) → Stands document name n levels → room name ≡ levels
 unfolding room
 room_is document name n levels h = let left = h.levels_left in omega (arith)
 
+-- the ids at the name of a node are those of the node
 pub ids_are : (document : Node) (name : List Label) (n : Node) → node_at document name ≡ Some n → ids_in document name ≡ ids_of n
 ids_are document name n h = ap (λ (o : Option Node). option_map_or ids_of o []) h
 
+-- the local information at the name of a node is that of the node
 pub local_is : (document : Node) (name : List Label) (n : Node) → node_at document name ≡ Some n → local_in document name ≡ local_of n
 local_is document name n h = ap (λ (o : Option Node). option_map_or local_of o no_local) h
 
@@ -134,6 +137,7 @@ name_is : (name : List Label) → name_of (place_of name) ≡ name
 name_is [] = refl
 name_is (l ∷ name) = ap (λ ls. l ∷ ls) (name_is name)
 
+-- the item at the place of a node
 pub item_is : (document : Node) (name : List Label) (n : Node) → node_at document name ≡ Some n → item_at document (place_of name) ≡ Some (record { at = name; is = elements.Node n })
 item_is document name n h =
     ap (option_and_then (item_of (name_of (place_of name)))) (part_is document name n h) ∙ ap (λ (at : List Label). Some (record { at = at; is = elements.Node n })) (name_is name)

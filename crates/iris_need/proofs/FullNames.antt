@@ -26,12 +26,12 @@ use Rattle.iris_need.specs.Needs.{is_full_level, is_full, full_names}
 use Rattle.iris_base.specs.Attribute.{is_id}
 use Rattle.iris_need.specs.Program.{each, gather, where_so, and_so, room, subtree}
 use Rattle.iris_need.specs.Run.{Run, give, run, all_of, eval, ids_in, local_in}
-use Rattle.iris_need.proofs.Apart.{full_of, AllNamed, named_append, Block, Blocks, no_blocks, no_block, more_blocks, own_block}
-use Rattle.iris_need.proofs.AtNodes.{next_log}
+use Rattle.iris_need.proofs.FullPart.{full_of, AllNamed, named_append, Block, Blocks, no_blocks, no_block, more_blocks, own_block}
+use Rattle.iris_need.proofs.MissingExists.{next_log}
 use Rattle.iris_need.proofs.Documents.{Stands, AllStand, children_stand, top_stands, room_is, ids_are}
 use Rattle.iris_need.proofs.Selected.{text_is, texts_are}
 use Rattle.iris_need.specs.ThinProgram.{has_text, all_have_text, thin_tested, thin_goes, thin_from}
-use Rattle.iris_need.proofs.Thin.{thin_program_is}
+use Rattle.iris_need.proofs.ThinProgram.{thin_program_is}
 
 -- what a program looks at over all of a document
 abbrev log : Node → {A : Type 0} → Run A → List Need

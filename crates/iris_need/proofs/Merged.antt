@@ -13,7 +13,7 @@ use Rattle.iris_fragment.specs.declared.piece.Level.{Level}
 use Rattle.iris_fragment.specs.declared.piece.Level.TheVariants.{Ids, Full}
 use Rattle.iris_fragment.proofs.Names.{name_exact}
 use Rattle.iris_need.specs.declared.need.Need.{Need}
-use Rattle.iris_need.specs.Laws.{need_cmp, AreOrdered}
+use Rattle.iris_need.specs.Laws.{need_cmp, AreOrderedNeeds}
 use Rattle.iris_need.specs.Needs.{greater, put_look, with_look, merged}
 
 -- ---- what is so of the name and the level of each look is so of each need
@@ -42,6 +42,7 @@ fold_has : (P : List Label → Level → Type 0) (looks needs : List Need) → E
 fold_has P [] needs h also = also
 fold_has P (look ∷ looks) needs h also = fold_has P looks (with_look needs look) h.1 (with_has P look h.0 needs also)
 
+-- what is so of each look is so of each need
 pub merged_have : (P : List Label → Level → Type 0) (looks : List Need) → All (λ look. P look.name look.level) looks → All (λ need. P need.name need.level) (merged looks)
 merged_have P looks h = All-from_recursion (λ need. P need.name need.level) (merged looks) (fold_has P looks [] (recursion_from_All (λ look. P look.name look.level) looks h) tt)
 
@@ -60,6 +61,7 @@ none_before : (looks needs : List Need) → fold with_look needs looks ≡ [] �
 none_before [] needs e = e
 none_before (look ∷ looks) needs e = absurd (with_some needs look (none_before looks (with_look needs look) e))
 
+-- no need comes of no look alone
 pub merged_empty : (looks : List Need) → merged looks ≡ [] → looks ≡ []
 merged_empty [] e = refl
 merged_empty (look ∷ looks) e = absurd (with_some [] look (none_before looks (with_look [] look) e))
@@ -83,21 +85,22 @@ with_after : (first look : Need) → need_cmp first look ≡ Less → (needs : L
 with_after first look p [] h = (p, tt)
 with_after first look p (need ∷ needs) h = put_after first (need_cmp look need) look need needs (with_look needs look) p h.0 h.1 (with_after first look p needs h.1)
 
-put_ordered : (o : Ordering) (look need : Need) (needs more : List Need) → need_cmp look need ≡ o → AreAfter need needs → AreOrdered needs → (need_cmp need look ≡ Less → AreAfter need more) → AreOrdered more → AreOrdered (put_look o look need needs more)
+put_ordered : (o : Ordering) (look need : Need) (needs more : List Need) → need_cmp look need ≡ o → AreAfter need needs → AreOrderedNeeds needs → (need_cmp need look ≡ Less → AreAfter need more) → AreOrderedNeeds more → AreOrderedNeeds (put_look o look need needs more)
 unfolding IsStrictlySortedBy
 put_ordered Less look need needs more e first rest also ordered = ((e, after_more look need e needs first), (first, rest))
 put_ordered Equal look need needs more e first rest also ordered = (first, rest)
 put_ordered Greater look need needs more e first rest also ordered = (also (names_total.antisymm need.name look.name ∙ ap ordering_reverse e), ordered)
 
-with_ordered : (look : Need) (needs : List Need) → AreOrdered needs → AreOrdered (with_look needs look)
+with_ordered : (look : Need) (needs : List Need) → AreOrderedNeeds needs → AreOrderedNeeds (with_look needs look)
 unfolding IsStrictlySortedBy
 with_ordered look [] h = (tt, tt)
 with_ordered look (need ∷ needs) h = put_ordered (need_cmp look need) look need needs (with_look needs look) refl h.0 h.1 (λ e. with_after need look e needs h.0) (with_ordered look needs h.1)
 
-fold_ordered : (looks needs : List Need) → AreOrdered needs → AreOrdered (fold with_look needs looks)
+fold_ordered : (looks needs : List Need) → AreOrderedNeeds needs → AreOrderedNeeds (fold with_look needs looks)
 fold_ordered [] needs h = h
 fold_ordered (look ∷ looks) needs h = fold_ordered looks (with_look needs look) (with_ordered look needs h)
 
-pub merged_ordered : (looks : List Need) → AreOrdered (merged looks)
+-- merged looks stand in the order of their names
+pub merged_ordered : (looks : List Need) → AreOrderedNeeds (merged looks)
 unfolding IsStrictlySortedBy
 merged_ordered looks = fold_ordered looks [] tt

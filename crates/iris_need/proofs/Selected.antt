@@ -30,7 +30,7 @@ use Rattle.iris_need.specs.Program.{each, gather, where_so, and_so, subtree, pro
 use Rattle.iris_need.specs.Run.{Run, eval, ids_in}
 use Rattle.iris_need.proofs.Documents.{Stands, AllStand, children_stand, top_stands, room_is, ids_are, local_is, item_is}
 use Rattle.iris_need.specs.ThinProgram.{has_text, all_have_text, thin_tested, thin_goes, thin_from}
-use Rattle.iris_need.proofs.Thin.{thin_program_is}
+use Rattle.iris_need.proofs.ThinProgram.{thin_program_is}
 
 -- ---- words of programs
 
@@ -78,9 +78,11 @@ text_by : (document : Node) (by_id : Bool) (marks : List State) (e : Equals) (n 
 text_by document true marks e n name h = refl
 text_by document false marks e n name h = ap (λ (x : Local). is_text (value_of x.attrs e.name) e.value) (local_is document name n h)
 
+-- over a whole document the test of an attribute is its meaning
 pub text_is : (document : Node) (marks : List State) (e : Equals) (n : Node) (name : List Label) → node_at document name ≡ Some n → eval document (has_text (is_id e.name) marks e name (label_of n)) ≡ holds (a_node n) e
 text_is document marks e n name h = text_by document (is_id e.name) marks e n name h
 
+-- over a whole document the tests of all predicates are their meaning
 pub texts_are : (document : Node) (marks : List State) (es : List Equals) (n : Node) (name : List Label) → node_at document name ≡ Some n → eval document (all_have_text marks es name (label_of n)) ≡ list_all (holds (a_node n)) es
 texts_are document marks [] n name h = refl
 texts_are document marks (e ∷ es) n name h =

@@ -27,10 +27,10 @@ use Rattle.iris_need.specs.Needs.{with_look, is_under, seen_from, is_missing, wi
 use Rattle.iris_need.specs.Run.{Run, give, next, View, Out, Seen, meets}
 use Rattle.iris_need.specs.Program.{gather, join, where_so, and_so, document_spot, node_spot, last_label, Marks, holds, all_hold, tested_at, goes, go_at, seek_at, test_at, enter, own_look, program_from, program}
 use Rattle.iris_need.specs.ThinProgram.{thin_from, thin_goes_on, thin_seeks, thin_enter}
-use Rattle.iris_need.specs.Starts.{entered, from_top_if, top_tests, top_enter}
-use Rattle.iris_need.specs.Collected.{take, collected, full_at}
-use Rattle.iris_need.proofs.Walking.{cut_at, one_more, rest_thin, collected_give, collected_both, no_ids, with_ids, no_full, with_full}
-use Rattle.iris_need.proofs.Thin.{Same, same, same_next, same_join, same_gather, equalities, thin_steps, from_top, enter_is}
+use Rattle.iris_need.specs.Starts.{steps_entered, from_top_if, top_tests, top_enter}
+use Rattle.iris_need.specs.Collected.{take_look, collected, full_at}
+use Rattle.iris_need.proofs.Collected.{cut_at, one_more, rest_thin, collected_give, collected_both, no_ids, with_ids, no_full, with_full}
+use Rattle.iris_need.proofs.ThinProgram.{Same, same, same_next, same_join, same_gather, equalities, thin_steps, from_top, enter_is}
 
 -- ---- at the document
 
@@ -91,12 +91,14 @@ program_node query start l name h n =
 
 collected_same : (which : Looks) (above : List Label) (pieces : Pieces) (needs : List Need) {A : Type 0} (r s : Run A) → Same r s → collected which above pieces needs r ≡ collected which above pieces needs s
 unfolding collected
-collected_same which above pieces needs {A = A} r s h = ap (λ (o : Out A). fold (take which above (view_of pieces)) needs o.log) (h.runs (seen_from above (view_of pieces)))
+collected_same which above pieces needs {A = A} r s h = ap (λ (o : Out A). fold (take_look which above (view_of pieces)) needs o.log) (h.runs (seen_from above (view_of pieces)))
 
+-- what a start at the document looks at
 pub collected_top : (which : Looks) (above : List Label) (pieces : Pieces) (needs : List Need) (query : Syntax) (start : Start) → is_thin query ≡ true → start.name ≡ []
     → collected which above pieces needs (program query start) ≡ collected which above pieces needs (gather (top_enter start.top (thin_of query)) start.states)
 collected_top which above pieces needs query start h n = collected_same which above pieces needs (program query start) (gather (top_enter start.top (thin_of query)) start.states) (program_top query start h n)
 
+-- what a start at a node looks at
 pub collected_node : (which : Looks) (above : List Label) (pieces : Pieces) (needs : List Need) (query : Syntax) (start : Start) (l : Label) (name : List Label) → is_thin query ≡ true → start.name ≡ l ∷ name
     → collected which above pieces needs (program query start) ≡ collected which above pieces needs (join (own_look start.name start.level) (gather (thin_enter (thin_of query) start.name (last_label l name)) start.states))
 collected_node which above pieces needs query start l name h n =
@@ -108,59 +110,67 @@ take_unmet : (above : List Label) (w : View) (missing : Bool) (needs : List Need
 take_unmet above w true needs look more = refl
 take_unmet above w false needs look more = refl
 
-unmet_are : (start : Start) (w : View) (needs xs : List Need) → fold (take Unmet start.name w) needs xs ≡ fold with_look needs (filter (is_missing start w) xs)
+unmet_are : (start : Start) (w : View) (needs xs : List Need) → fold (take_look Unmet start.name w) needs xs ≡ fold with_look needs (filter (is_missing start w) xs)
 unmet_are start w needs [] = refl
-unmet_are start w needs (look ∷ xs) = unmet_are start w (take Unmet start.name w needs look) xs ∙ take_unmet start.name w (is_missing start w look) needs look (filter (is_missing start w) xs)
+unmet_are start w needs (look ∷ xs) = unmet_are start w (take_look Unmet start.name w needs look) xs ∙ take_unmet start.name w (is_missing start w look) needs look (filter (is_missing start w) xs)
 
 take_met : (met : Bool) (needs : List Need) (look : Need) (more : List Need) → fold with_look (cond met (with_look needs (without_states look)) needs) (map without_states more) ≡ fold with_look needs (map without_states (cond met (look ∷ more) more))
 take_met true needs look more = refl
 take_met false needs look more = refl
 
-met_are : (start : Start) (w : View) (needs xs : List Need) → fold (take Met start.name w) needs xs ≡ fold with_look needs (map without_states (filter (meets (seen_from start.name w)) xs))
+met_are : (start : Start) (w : View) (needs xs : List Need) → fold (take_look Met start.name w) needs xs ≡ fold with_look needs (map without_states (filter (meets (seen_from start.name w)) xs))
 met_are start w needs [] = refl
-met_are start w needs (look ∷ xs) = met_are start w (take Met start.name w needs look) xs ∙ take_met (meets (seen_from start.name w) look) needs look (filter (meets (seen_from start.name w)) xs)
+met_are start w needs (look ∷ xs) = met_are start w (take_look Met start.name w needs look) xs ∙ take_met (meets (seen_from start.name w) look) needs look (filter (meets (seen_from start.name w)) xs)
 
+-- the unmet looks are what is missing
 pub missing_is : (query : Syntax) (start : Start) (pieces : Pieces) → collected Unmet start.name pieces [] (program query start) ≡ missing_of query start pieces
 unfolding collected
 missing_is query start pieces = unmet_are start (view_of pieces) [] (looks query start (view_of pieces))
 
+-- the met looks are what the evaluation rests on
 pub support_is : (query : Syntax) (start : Start) (pieces : Pieces) → collected Met start.name pieces [] (program query start) ≡ support_of query start pieces
 unfolding collected
 support_is query start pieces = met_are start (view_of pieces) [] (looks query start (view_of pieces))
 
 -- ---- the states
 
-pub goes_on_entered : (i : ℕ) (ms : List Main) (name : List Label) (l : Label) → thin_goes_on i ms name l ≡ entered (states.At i) i ms name
+-- the state `At` takes the step of its number
+pub goes_on_entered : (i : ℕ) (ms : List Main) (name : List Label) (l : Label) → thin_goes_on i ms name l ≡ steps_entered (states.At i) i ms name
 goes_on_entered i [] name l = refl
 goes_on_entered i (m ∷ ms) name l = refl
 
-pub seeks_entered : (i : ℕ) (ms : List Main) (name : List Label) (l : Label) → thin_seeks i ms name l ≡ entered (states.Seek i) i ms name
+-- the state `Seek` takes the step of its number
+pub seeks_entered : (i : ℕ) (ms : List Main) (name : List Label) (l : Label) → thin_seeks i ms name l ≡ steps_entered (states.Seek i) i ms name
 seeks_entered i [] name l = refl
 seeks_entered i (m ∷ ms) name l = refl
 
 -- ---- at the start's own node
 
+-- the look at the ids of the start's own node
 pub own_ids : (which : Looks) (above : List Label) (pieces : Pieces) (needs : List Need) (name : List Label) (level : Level) → is_under name above ≡ true → level ≡ Ids
-    → collected which above pieces needs (own_look name level) ≡ take which above (view_of pieces) needs (record { name = name; level = Ids; states = [] })
+    → collected which above pieces needs (own_look name level) ≡ take_look which above (view_of pieces) needs (record { name = name; level = Ids; states = [] })
 own_ids which above pieces needs name level u h = rw h (by_piece (piece_at pieces name) refl)
   where
-    by_piece : (o : Option Piece) → piece_at pieces name ≡ o → collected which above pieces needs (own_look name Ids) ≡ take which above (view_of pieces) needs (record { name = name; level = Ids; states = [] })
+    by_piece : (o : Option Piece) → piece_at pieces name ≡ o → collected which above pieces needs (own_look name Ids) ≡ take_look which above (view_of pieces) needs (record { name = name; level = Ids; states = [] })
     by_piece None p = (no_ids which above pieces needs name [] _ u p).0
     by_piece (Some piece) p = (with_ids which above pieces needs name [] piece _ u p).0 ∙ collected_give which above pieces _ []
 
+-- the look at the local information of the start's own node
 pub own_full : (which : Looks) (above : List Label) (pieces : Pieces) (needs : List Need) (name : List Label) (level : Level) → is_under name above ≡ true → level ≡ Full
-    → collected which above pieces needs (own_look name level) ≡ take which above (view_of pieces) needs (record { name = name; level = Full; states = [] })
+    → collected which above pieces needs (own_look name level) ≡ take_look which above (view_of pieces) needs (record { name = name; level = Full; states = [] })
 own_full which above pieces needs name level u h = rw h (by_seen (full_at pieces name) refl)
   where
-    by_seen : (o : Option Seen) → full_at pieces name ≡ o → collected which above pieces needs (own_look name Full) ≡ take which above (view_of pieces) needs (record { name = name; level = Full; states = [] })
+    by_seen : (o : Option Seen) → full_at pieces name ≡ o → collected which above pieces needs (own_look name Full) ≡ take_look which above (view_of pieces) needs (record { name = name; level = Full; states = [] })
     by_seen None p = (no_full which above pieces needs name [] _ u p).0
     by_seen (Some s) p = (with_full which above pieces needs name [] s _ u p).0 ∙ collected_give which above pieces _ []
 
 -- ---- the step of a number
 
+-- the steps from a number on
 pub steps_cut : (steps : Syntax) (i : ℕ) (x : Step Expression) → i < length steps → x ≡ get_or steps i x → drop i (thin_of steps) ≡ thin.thin_step x ∷ thin_of (drop (i + 1) steps)
 steps_cut steps i x h e = drop-map thin.thin_step i steps ∙ ap (map thin.thin_step) (cut_at steps i x x h e)
 
+-- the steps from a number on are thin
 pub thin_from_there : (steps : Syntax) (i : ℕ) (x : Step Expression) → i < length steps → x ≡ get_or steps i x → is_thin steps ≡ true → (thin.is_thin_step x ≡ true) × (is_thin (drop (i + 1) steps) ≡ true)
 thin_from_there steps i x h e t =
     let whole : list_all thin.is_thin_step (take_first i steps ++ drop i steps) ≡ true = ap (list_all thin.is_thin_step) (take-append-drop i steps) ∙ t in
@@ -169,6 +179,7 @@ thin_from_there steps i x h e t =
 
 -- ---- at the document
 
+-- no predicate holds at the document
 pub top_none : (which : Looks) (above : List Label) (pieces : Pieces) (needs : List Need) (top : Label) (i : ℕ) (ms rest : List Main) (m : Main) → ms ≡ m ∷ rest → m.predicates ≢ [] → collected which above pieces needs (top_tests top i ms) ≡ needs
 top_none which above pieces needs top i ms rest m h n = rw h (by_predicates m.predicates n)
   where
@@ -195,6 +206,7 @@ has_equality s b t h f n =
     let holds : IsTrue false = subst (λ (c : Bool). IsTrue c) f (h (equalities_of s.predicates all n)) in
     absurd (search rules)
 
+-- the last step leads nowhere from the document
 pub top_last : (which : Looks) (above : List Label) (pieces : Pieces) (needs : List Need) (top : Label) (i : ℕ) (ms : List Main) (x : Step Expression) (rest : Syntax) → ms ≡ thin.thin_step x ∷ thin_of rest → rest ≡ [] → collected which above pieces needs (top_tests top i ms) ≡ needs
 top_last which above pieces needs top i ms x rest h n = rw (h, n) (by_predicates (thin.thin_step x).predicates)
   where
@@ -212,6 +224,7 @@ last_of : (name up : List Label) (l : Label) → name ≡ up ++ l ∷ [] → (x 
 last_of name [] l h = (l, [], h, refl)
 last_of name (a ∷ up) l h = (a, up ++ l ∷ [], h, last_snoc a up l)
 
+-- the states of a start at a node, after the look at the node
 pub from_node_on : (which : Looks) (above : List Label) (pieces : Pieces) (needs after new : List Need) (query : Syntax) (start : Start) (name up : List Label) (label : Label) (states : List State) → is_thin query ≡ true → start.name ≡ up ++ label ∷ [] → name ≡ start.name → states ≡ start.states
     → after ≡ collected which above pieces needs (own_look name start.level) → new ≡ collected which above pieces after (gather (thin_enter (thin_of query) name label) states) → new ≡ collected which above pieces needs (program query start)
 from_node_on which above pieces needs after new query start name up label states t l n s a h =
@@ -223,6 +236,7 @@ from_node_on which above pieces needs after new query start name up label states
     ∙ ap (λ (m : Label). collected which above pieces needs (join (own_look start.name start.level) (gather (thin_enter (thin_of query) start.name m) start.states))) (sym last.3)
     ∙ sym (collected_node which above pieces needs query start last.0 last.1 t last.2)
 
+-- one more state at a node
 pub enter_more : (which : Looks) (above : List Label) (pieces : Pieces) (q : List Main) (label : Label) (name m : List Label) (xs : List State) (i : ℕ) (d : State) (old new all : List Need) → i < length xs → m ≡ name → new ≡ collected which above pieces old (thin_enter q m label (get_or xs i d))
     → collected which above pieces old (gather (thin_enter q name label) (drop i xs)) ≡ all → collected which above pieces new (gather (thin_enter q name label) (drop (i + 1) xs)) ≡ all
 enter_more which above pieces q label name m xs i d old new all lt e h o =

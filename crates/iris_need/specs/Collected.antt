@@ -26,25 +26,25 @@ needs_of entries = map need_of entries
 
 -- ---- one look more
 
-abbrev pub taken : Looks → Bool → List Need → Need → List Need
-taken Unmet met needs look = if met then needs else with_look needs look
-taken Met met needs look = if met then with_look needs (without_states look) else needs
+abbrev pub look_taken : Looks → Bool → List Need → Need → List Need
+look_taken Unmet met needs look = if met then needs else with_look needs look
+look_taken Met met needs look = if met then with_look needs (without_states look) else needs
 
 -- only what is at or under a name is ever missing
-abbrev pub taken_under : Looks → Bool → Bool → List Need → Need → List Need
-taken_under Unmet under met needs look = if under && not met then with_look needs look else needs
-taken_under Met under met needs look = if met then with_look needs (without_states look) else needs
+abbrev pub look_taken_under : Looks → Bool → Bool → List Need → Need → List Need
+look_taken_under Unmet under met needs look = if under && not met then with_look needs look else needs
+look_taken_under Met under met needs look = if met then with_look needs (without_states look) else needs
 
-abbrev pub take : Looks → List Label → View → List Need → Need → List Need
-take which above w needs look = taken_under which (is_under look.name above) (meets (seen_from above w) look) needs look
+abbrev pub take_look : Looks → List Label → View → List Need → Need → List Need
+take_look which above w needs look = look_taken_under which (is_under look.name above) (meets (seen_from above w) look) needs look
 
 -- the needs after all looks of a program
 unfoldable pub collected : Looks → List Label → Pieces → List Need → {A : Type 0} → Run A → List Need
-collected which above pieces needs r = fold (take which above (view_of pieces)) needs (run (seen_from above (view_of pieces)) r).log
+collected which above pieces needs r = fold (take_look which above (view_of pieces)) needs (run (seen_from above (view_of pieces)) r).log
 
 -- what a program gives over the pieces under a name
-unfoldable pub given : List Label → Pieces → {A : Type 0} → Run A → Option A
-given above pieces r = (run (seen_from above (view_of pieces)) r).value
+unfoldable pub value_given : List Label → Pieces → {A : Type 0} → Run A → Option A
+value_given above pieces r = (run (seen_from above (view_of pieces)) r).value
 
 -- ---- what is known of a node
 

@@ -18,8 +18,8 @@ abbrev pub need_cmp : Need → Need → Ordering
 need_cmp = on (λ need. need.name) (slice_cmp label_cmp)
 
 -- the names of needs rise, so each is there once
-abbrev pub AreOrdered : List Need → Type 0
-AreOrdered needs = IsStrictlySortedBy need_cmp needs
+abbrev pub AreOrderedNeeds : List Need → Type 0
+AreOrderedNeeds needs = IsStrictlySortedBy need_cmp needs
 
 -- one of these looks is at that name and at that level
 abbrev pub HasLook : List Need → List Label → Level → Type 0

@@ -51,12 +51,12 @@ abbrev pub with_state : List State → State → List State
 with_state [] s = s ∷ []
 with_state (t ∷ ts) s = put_state (state_cmp s t) s t ts (with_state ts s)
 
-abbrev pub joined : Need → Need → Need
-joined need look = record { name = need.name; level = greater need.level look.level; states = fold with_state need.states look.states }
+abbrev pub joined_needs : Need → Need → Need
+joined_needs need look = record { name = need.name; level = greater need.level look.level; states = fold with_state need.states look.states }
 
 abbrev pub put_look : Ordering → Need → Need → List Need → List Need → List Need
 put_look Less look need needs more = look ∷ need ∷ needs
-put_look Equal look need needs more = joined need look ∷ needs
+put_look Equal look need needs more = joined_needs need look ∷ needs
 put_look Greater look need needs more = need ∷ more
 
 -- needs in the order of their names, each name once, with one look more: the greater level, and the states together

@@ -41,13 +41,13 @@ first_full (Some full) later = Some full
 first_full None later = later
 
 -- a piece after another of the same name: the ids that were there stay
-abbrev pub joined : Option Piece → Piece → Piece
-joined None piece = piece
-joined (Some old) piece = record { name = old.name; ids = old.ids; full = first_full old.full piece.full }
+abbrev pub joined_pieces : Option Piece → Piece → Piece
+joined_pieces None piece = piece
+joined_pieces (Some old) piece = record { name = old.name; ids = old.ids; full = first_full old.full piece.full }
 
 -- the view with one piece more
 abbrev pub with_piece : Pieces → Piece → Pieces
-with_piece pieces piece = insert_entry (slice_cmp label_cmp) pieces piece.name (joined (piece_at pieces piece.name) piece)
+with_piece pieces piece = insert_entry (slice_cmp label_cmp) pieces piece.name (joined_pieces (piece_at pieces piece.name) piece)
 
 -- ---- what an evaluation sees of it
 

@@ -6,12 +6,12 @@ use Rattle.iris_xpath.specs.Thin.{Equals, Main}
 use Rattle.iris_need.specs.declared.need.State.{State}
 use Rattle.iris_need.specs.declared.need.State.TheVariants as states
 use Rattle.iris_need.specs.Run.{Run, give}
-use Rattle.iris_need.specs.ThinProgram.{thin_step, thin_goes, thin_from}
+use Rattle.iris_need.specs.ThinProgram.{thin_step_program, thin_goes, thin_from}
 
 -- steps go on from a node with a state; nothing where there are none
-abbrev pub entered : State → ℕ → List Main → List Label → Run (List Item)
-entered state i [] name = give []
-entered state i (m ∷ ms) name = thin_step (state ∷ []) i m (thin_goes (i + 1) ms) name
+abbrev pub steps_entered : State → ℕ → List Main → List Label → Run (List Item)
+steps_entered state i [] name = give []
+steps_entered state i (m ∷ ms) name = thin_step_program (state ∷ []) i m (thin_goes (i + 1) ms) name
 
 -- the document has no attribute, so that no predicate holds there
 abbrev pub from_top_if : List Equals → Run (List Item) → Run (List Item)

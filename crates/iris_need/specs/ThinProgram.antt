@@ -31,13 +31,13 @@ abbrev pub thin_tested : {A : Type 0} → ℕ → Main → List Label → Label 
 thin_tested i m name l r = next (all_have_text (states.Test i ∷ []) m.predicates name l) (λ b. where_so b r)
 
 -- a step to the children of a node: each that is of the kind is tested, and where it passes a further program is run at it
-abbrev pub thin_step : {A : Type 0} → List State → ℕ → Main → (List Label → Label → Run (List A)) → List Label → Run (List A)
-thin_step marks i m further name = see_ids name marks (gather (λ child. where_so (bytes_eq child.kind m.kind) (thin_tested i m (name ++ child ∷ []) child (further (name ++ child ∷ []) child))))
+abbrev pub thin_step_program : {A : Type 0} → List State → ℕ → Main → (List Label → Label → Run (List A)) → List Label → Run (List A)
+thin_step_program marks i m further name = see_ids name marks (gather (λ child. where_so (bytes_eq child.kind m.kind) (thin_tested i m (name ++ child ∷ []) child (further (name ++ child ∷ []) child))))
 
 -- a step and all further ones; after the last one the node is selected
 abbrev pub thin_goes : ℕ → List Main → List Label → Label → Run (List Item)
 thin_goes i [] name l = found (node_spot name l)
-thin_goes i (m ∷ ms) name l = thin_step (states.At i ∷ []) i m (thin_goes (i + 1) ms) name
+thin_goes i (m ∷ ms) name l = thin_step_program (states.At i ∷ []) i m (thin_goes (i + 1) ms) name
 
 -- from the document, whose one child is the top node: a step and all further ones
 abbrev pub thin_from : Label → ℕ → List Main → Run (List Item)
@@ -49,7 +49,7 @@ thin_from top i (m ∷ ms) = where_so (bytes_eq top.kind m.kind) (thin_tested i 
 -- a step that goes on from a node with other states
 abbrev pub thin_seeks : ℕ → List Main → List Label → Label → Run (List Item)
 thin_seeks i [] name l = give []
-thin_seeks i (m ∷ ms) name l = thin_step (states.Seek i ∷ []) i m (thin_goes (i + 1) ms) name
+thin_seeks i (m ∷ ms) name l = thin_step_program (states.Seek i ∷ []) i m (thin_goes (i + 1) ms) name
 
 abbrev pub thin_goes_on : ℕ → List Main → List Label → Label → Run (List Item)
 thin_goes_on i [] name l = give []

@@ -10,7 +10,7 @@ ghost use Rattle.iris_need.specs.Pieces.{Agrees};
 ghost use Rattle.iris_need.specs.Needs.{is_under, missing_of, from_document};
 ghost use Rattle.iris_need.specs.Program.{subtree, found, node_spot};
 ghost use Rattle.iris_need.specs.ThinProgram.{thin_tested, thin_goes, thin_from};
-ghost use Rattle.iris_need.specs.Collected.{given, visited};
+ghost use Rattle.iris_need.specs.Collected.{value_given, visited};
 ghost use Rattle.iris_need.specs.Answers.{AreRising, AreBefore, items_if, found_after};
 
 use crate::need::State;
@@ -43,7 +43,7 @@ impl<'a> Walk<'a> {
         name: &mut Name,
     ) -> Mem<Option<Tree>>
         requires under { is_under name.old self.now.above.now ≡ true }
-        ensures tree { IfOk result (λ tree. AreRising self.now.view.now → tree ≡ given self.now.above.now self.now.view.now (subtree levels label name.old)) }
+        ensures tree { IfOk result (λ tree. AreRising self.now.view.now → tree ≡ value_given self.now.above.now self.now.view.now (subtree levels label name.old)) }
         ensures name { OnOk result (name.new ≡ name.old) }
     {
         let Some((ids, local)) = self.view.full(name) else {
@@ -76,7 +76,7 @@ impl<'a> Walk<'a> {
         items: &mut Vec<Item>,
     ) -> Mem<bool>
         requires under { is_under name.old self.now.above.now ≡ true }
-        ensures items { IfOk result (λ told. AreRising self.now.view.now → items_if told items.new.items ≡ found_after items.old.items (given self.now.above.now self.now.view.now (found (node_spot name.old label)))) }
+        ensures items { IfOk result (λ told. AreRising self.now.view.now → items_if told items.new.items ≡ found_after items.old.items (value_given self.now.above.now self.now.view.now (found (node_spot name.old label)))) }
         ensures name { OnOk result (name.new ≡ name.old) }
     {
         let Some(tree) = self.tree_at(alloc, room(name), label, name)? else {
@@ -100,7 +100,7 @@ impl<'a> Walk<'a> {
         items: &mut Vec<Item>,
     ) -> Mem<bool>
         requires under { is_under name.old self.now.above.now ≡ true }
-        ensures items { IfOk result (λ told. AreRising self.now.view.now → items_if told items.new.items ≡ found_after items.old.items (given self.now.above.now self.now.view.now (thin_goes (route.now.number + 1) (thin_of route.now.rest.now) name.old label))) }
+        ensures items { IfOk result (λ told. AreRising self.now.view.now → items_if told items.new.items ≡ found_after items.old.items (value_given self.now.above.now self.now.view.now (thin_goes (route.now.number + 1) (thin_of route.now.rest.now) name.old label))) }
         ensures name { OnOk result (name.new ≡ name.old) }
     {
         let Some(next) = route.next() else {
@@ -128,7 +128,7 @@ impl<'a> Walk<'a> {
         items: &mut Vec<Item>,
     ) -> Mem<bool>
         requires under { is_under (name.old ++ child ∷ []) self.now.above.now ≡ true }
-        ensures items { IfOk result (λ told. AreRising self.now.view.now → items_if told items.new.items ≡ found_after items.old.items (given self.now.above.now self.now.view.now (visited route.now.number (thin.thin_step route.now.step.now) (thin_of route.now.rest.now) name.old child))) }
+        ensures items { IfOk result (λ told. AreRising self.now.view.now → items_if told items.new.items ≡ found_after items.old.items (value_given self.now.above.now self.now.view.now (visited route.now.number (thin.thin_step route.now.step.now) (thin_of route.now.rest.now) name.old child))) }
         ensures name { OnOk result (name.new ≡ name.old) }
     {
         if !is_of_kind(route, &child) {
@@ -151,7 +151,7 @@ impl<'a> Walk<'a> {
         items: &mut Vec<Item>,
     ) -> Mem<bool>
         requires under { is_under name.old self.now.above.now ≡ true }
-        ensures items { IfOk result (λ told. AreRising self.now.view.now → items_if told items.new.items ≡ found_after items.old.items (given self.now.above.now self.now.view.now (thin_tested route.now.number (thin.thin_step route.now.step.now) name.old label (thin_goes (route.now.number + 1) (thin_of route.now.rest.now) name.old label)))) }
+        ensures items { IfOk result (λ told. AreRising self.now.view.now → items_if told items.new.items ≡ found_after items.old.items (value_given self.now.above.now self.now.view.now (thin_tested route.now.number (thin.thin_step route.now.step.now) name.old label (thin_goes (route.now.number + 1) (thin_of route.now.rest.now) name.old label)))) }
         ensures name { OnOk result (name.new ≡ name.old) }
     {
         let mut needs = Needs::new(alloc);
@@ -168,7 +168,7 @@ impl<'a> Walk<'a> {
     // Adds the items to which all steps lead from the document on. Whether the view tells them all.
     fn find_from_document(&self, alloc: Global, top: Label, items: &mut Vec<Item>) -> Mem<bool>
         requires everything { self.now.above.now ≡ [] }
-        ensures { IfOk result (λ told. AreRising self.now.view.now → items_if told items.new.items ≡ found_after items.old.items (given self.now.above.now self.now.view.now (thin_from top 0 (thin_of self.now.steps.now)))) }
+        ensures { IfOk result (λ told. AreRising self.now.view.now → items_if told items.new.items ≡ found_after items.old.items (value_given self.now.above.now self.now.view.now (thin_from top 0 (thin_of self.now.steps.now)))) }
     {
         let Some(route) = self.route_at(0) else {
             return Ok(true);

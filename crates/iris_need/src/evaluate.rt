@@ -5,7 +5,7 @@ ghost use Rattle.iris_xpath.specs.ThinQuery.{thin_of};
 ghost use Rattle.iris_need.specs.Needs.{is_under, missing_of, support_of};
 ghost use Rattle.iris_need.specs.Program.{gather, own_look, last_label, program};
 ghost use Rattle.iris_need.specs.ThinProgram.{thin_enter, thin_from};
-ghost use Rattle.iris_need.specs.Starts.{entered, top_tests, top_enter};
+ghost use Rattle.iris_need.specs.Starts.{steps_entered, top_tests, top_enter};
 ghost use Rattle.iris_need.specs.Collected.{collected};
 
 use crate::need::{Need, Start, State};
@@ -21,7 +21,7 @@ impl<'a> Walk<'a> {
     // Takes the step of that number from a node, with the state that was asked for.
     fn resume_step(&self, state: State, i: u32, name: &mut Name, needs: &mut Needs) -> Mem<()>
         requires under { is_under name.old self.now.above.now ≡ true }
-        ensures looks { OnOk result (needs.new ≡ collected self.now.takes self.now.above.now self.now.view.now needs.old (entered state i (drop i (thin_of self.now.steps.now)) name.old)) }
+        ensures looks { OnOk result (needs.new ≡ collected self.now.takes self.now.above.now self.now.view.now needs.old (steps_entered state i (drop i (thin_of self.now.steps.now)) name.old)) }
         ensures name { OnOk result (name.new ≡ name.old) }
     {
         match self.route_at(i) {

@@ -8,13 +8,13 @@ ghost use Rattle.iris_need.specs.Run.{all_of, eval, meets};
 ghost use Rattle.iris_need.specs.Program.{program};
 ghost use Rattle.iris_need.specs.Pieces.{Pieces, view_of, Agrees};
 ghost use Rattle.iris_need.specs.Needs.{is_under, evaluation, looks, missing_of, support_of, full_part, full_names, from_document};
-ghost use Rattle.iris_need.specs.Laws.{AreOrdered, HasLook, IsOpenAtStart};
+ghost use Rattle.iris_need.specs.Laws.{AreOrderedNeeds, HasLook, IsOpenAtStart};
 
 /// What is missing, and what an evaluation rests on, stand in the order of names, each name once. This call
 /// does nothing.
 pub fn needs_are_ordered()
-    ensures missing { (query : Syntax) (start : Start) (view : Pieces) → AreOrdered (missing_of query start view) }
-    ensures support { (query : Syntax) (start : Start) (view : Pieces) → AreOrdered (support_of query start view) }
+    ensures missing { (query : Syntax) (start : Start) (view : Pieces) → AreOrderedNeeds (missing_of query start view) }
+    ensures support { (query : Syntax) (start : Start) (view : Pieces) → AreOrderedNeeds (support_of query start view) }
 {}
 
 /// What is missing is needed whatever the rest of the document is: over all of every document that agrees

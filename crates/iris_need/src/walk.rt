@@ -13,8 +13,8 @@ ghost use Rattle.iris_need.specs.Needs.{is_under};
 ghost use Rattle.iris_need.specs.Run.{meets};
 ghost use Rattle.iris_base.specs.Attribute.{is_id};
 ghost use Rattle.iris_need.specs.Program.{room, subtree, found, node_spot};
-ghost use Rattle.iris_need.specs.ThinProgram.{has_text, all_have_text, thin_tested, thin_step, thin_goes};
-ghost use Rattle.iris_need.specs.Collected.{take, collected, given, full_at, visited};
+ghost use Rattle.iris_need.specs.ThinProgram.{has_text, all_have_text, thin_tested, thin_step_program, thin_goes};
+ghost use Rattle.iris_need.specs.Collected.{take_look, collected, value_given, full_at, visited};
 
 use crate::need::State;
 use crate::needs::Needs;
@@ -93,7 +93,7 @@ impl<'a> Walk<'a> {
     ) -> Mem<()>
         requires under { is_under name.now self.now.above.now ≡ true }
         requires met { is_met ≡ meets (view_of self.now.view.now) (record { name = name.now; level = level; states = option_to_list state }) }
-        ensures { OnOk result (needs.new ≡ take self.now.takes self.now.above.now (view_of self.now.view.now) needs.old (record { name = name.now; level = level; states = option_to_list state })) }
+        ensures { OnOk result (needs.new ≡ take_look self.now.takes self.now.above.now (view_of self.now.view.now) needs.old (record { name = name.now; level = level; states = option_to_list state })) }
     {
         match self.takes {
             Looks::Unmet if is_met => Ok(()),
@@ -111,7 +111,7 @@ impl<'a> Walk<'a> {
         needs: &mut Needs,
     ) -> Mem<Option<&'a Piece>>
         requires under { is_under name.now self.now.above.now ≡ true }
-        ensures look { OnOk result (needs.new ≡ take self.now.takes self.now.above.now (view_of self.now.view.now) needs.old (record { name = name.now; level = Level.Ids; states = option_to_list state })) }
+        ensures look { OnOk result (needs.new ≡ take_look self.now.takes self.now.above.now (view_of self.now.view.now) needs.old (record { name = name.now; level = Level.Ids; states = option_to_list state })) }
         ensures piece { IfOk result (λ piece. option_copied piece ≡ piece_at self.now.view.now name.now) }
     {
         let piece = self.view.get(name);
@@ -127,7 +127,7 @@ impl<'a> Walk<'a> {
         needs: &mut Needs,
     ) -> Mem<Option<(&'a [Label], &'a Local)>>
         requires under { is_under name.now self.now.above.now ≡ true }
-        ensures look { OnOk result (needs.new ≡ take self.now.takes self.now.above.now (view_of self.now.view.now) needs.old (record { name = name.now; level = Level.Full; states = option_to_list state })) }
+        ensures look { OnOk result (needs.new ≡ take_look self.now.takes self.now.above.now (view_of self.now.view.now) needs.old (record { name = name.now; level = Level.Full; states = option_to_list state })) }
         ensures seen { IfOk result (λ seen. MatchOption seen (full_at self.now.view.now name.now ≡ None) (λ r. full_at self.now.view.now name.now ≡ Some (record { ids = r.0.now; local = r.1.now }))) }
     {
         let seen = self.view.full(name);
@@ -147,7 +147,7 @@ impl<'a> Walk<'a> {
     ) -> Mem<Option<bool>>
         requires under { is_under name.now self.now.above.now ≡ true }
         ensures looks { OnOk result (needs.new ≡ collected self.now.takes self.now.above.now self.now.view.now needs.old (has_text (is_id attribute.now) (state ∷ []) (record { name = attribute.now; value = value.now }) name.now label.now)) }
-        ensures value { IfOk result (λ b. b ≡ given self.now.above.now self.now.view.now (has_text (is_id attribute.now) (state ∷ []) (record { name = attribute.now; value = value.now }) name.now label.now)) }
+        ensures value { IfOk result (λ b. b ≡ value_given self.now.above.now self.now.view.now (has_text (is_id attribute.now) (state ∷ []) (record { name = attribute.now; value = value.now }) name.now label.now)) }
     {
         if is_id(attribute) {
             return Ok(Some(label.id.as_str() == value));
@@ -171,7 +171,7 @@ impl<'a> Walk<'a> {
         requires under { is_under name.now self.now.above.now ≡ true }
         requires thin { list_all (λ e. is_some (equality_of e)) predicates.now ≡ true }
         ensures looks { OnOk result (needs.new ≡ collected self.now.takes self.now.above.now self.now.view.now needs.old (all_have_text (state ∷ []) (filter_map equality_of predicates.now) name.now label.now)) }
-        ensures value { IfOk result (λ b. b ≡ given self.now.above.now self.now.view.now (all_have_text (state ∷ []) (filter_map equality_of predicates.now) name.now label.now)) }
+        ensures value { IfOk result (λ b. b ≡ value_given self.now.above.now self.now.view.now (all_have_text (state ∷ []) (filter_map equality_of predicates.now) name.now label.now)) }
     {
         let Some((first, rest)) = predicates.split_first() else {
             return Ok(Some(true));
@@ -246,7 +246,7 @@ impl<'a> Walk<'a> {
         needs: &mut Needs,
     ) -> Mem<()>
         requires under { is_under name.old self.now.above.now ≡ true }
-        ensures looks { OnOk result (needs.new ≡ collected self.now.takes self.now.above.now self.now.view.now needs.old (thin_step (state ∷ []) route.now.number (thin.thin_step route.now.step.now) (thin_goes (route.now.number + 1) (thin_of route.now.rest.now)) name.old)) }
+        ensures looks { OnOk result (needs.new ≡ collected self.now.takes self.now.above.now self.now.view.now needs.old (thin_step_program (state ∷ []) route.now.number (thin.thin_step route.now.step.now) (thin_goes (route.now.number + 1) (thin_of route.now.rest.now)) name.old)) }
         ensures name { OnOk result (name.new ≡ name.old) }
     {
         let Some(piece) = self.see_ids(name, Some(state), needs)? else {

@@ -1,6 +1,6 @@
 use Rattle.std.proofs.Common.{◌∙◌, ap, refl, rules, IsSome}
 use Rattle.iris_tree.specs.Universe.{label_of, local_of, children_of, child_of}
-use Rattle.iris_need.proofs.Answering.{twin_is_none, child_last}
+use Rattle.iris_need.proofs.Answers.{twin_is_none, child_last}
 use Rattle.iris_need.proofs.answer.add_last.Goals as goal
 
 pub returns-in-Ok : goal.returns-in-Ok

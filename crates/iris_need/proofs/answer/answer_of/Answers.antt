@@ -1,4 +1,4 @@
-use Rattle.iris_need.proofs.Answering.{determined_items}
+use Rattle.iris_need.proofs.Answers.{determined_items}
 use Rattle.iris_need.proofs.answer.answer_of.Goals as goal
 
 pub returns : goal.returns

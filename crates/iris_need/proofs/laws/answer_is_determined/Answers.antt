@@ -1,4 +1,4 @@
-use Rattle.iris_need.proofs.Unmet.{same_evaluation, determined_from}
+use Rattle.iris_need.proofs.UndecidedIsRealWork.{same_evaluation, determined_from}
 use Rattle.iris_need.proofs.laws.answer_is_determined.Goals as goal
 
 pub returns-clause-same : goal.returns-clause-same

@@ -1,4 +1,4 @@
-use Rattle.iris_need.proofs.Unmet.{missing_unmet, missing_under, missing_here}
+use Rattle.iris_need.proofs.UndecidedIsRealWork.{missing_unmet, missing_under, missing_here}
 use Rattle.iris_need.proofs.laws.missing_lies.Goals as goal
 
 pub returns-clause-unmet : goal.returns-clause-unmet

@@ -1,4 +1,4 @@
-use Rattle.iris_need.proofs.Unmet.{support_full}
+use Rattle.iris_need.proofs.UndecidedIsRealWork.{support_full}
 use Rattle.iris_need.proofs.laws.support_has_full_names.Goals as goal
 
 pub returns : goal.returns

@@ -1,4 +1,4 @@
-use Rattle.iris_need.proofs.AtNodes.{missing_exists}
+use Rattle.iris_need.proofs.MissingExists.{missing_exists}
 use Rattle.iris_need.proofs.thin_laws.missing_exists.Goals as goal
 
 pub returns : goal.returns

@@ -7,7 +7,7 @@ use Rattle.iris_need.specs.declared.need.Need.{Need}
 use Rattle.iris_need.specs.declared.need.State.{State}
 use Rattle.iris_need.specs.Needs.{with_look}
 use Rattle.iris_need.specs.Collected.{needs_of}
-use Rattle.iris_need.proofs.Entries.{Entries, names_cmp, look_absent, look_found}
+use Rattle.iris_need.proofs.Pieces.{Entries, names_cmp, look_absent, look_found}
 use Rattle.iris_need.proofs.needs.Needs.add.Goals as goal
 
 pub returns-in-Some : goal.returns-in-Some

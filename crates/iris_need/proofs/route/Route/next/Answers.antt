@@ -1,6 +1,6 @@
 use Rattle.std.proofs.Common.{arith}
 use Rattle.iris_xpath.specs.ThinQuery as thin
-use Rattle.iris_need.proofs.Walking.{rest_thin}
+use Rattle.iris_need.proofs.Collected.{rest_thin}
 use Rattle.iris_need.proofs.route.Route.next.Goals as goal
 
 pub invariant_of-result : goal.invariant_of-result

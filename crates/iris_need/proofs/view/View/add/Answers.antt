@@ -2,7 +2,7 @@ use Rattle.std.proofs.Common.{◌∙◌, sym, ap, refl, subst, List}
 use Rattle.std.specs.BTreeMap.{insert_entry}
 use Rattle.iris_base.specs.declared.name.Label.{Label}
 use Rattle.iris_need.specs.Pieces.{Pieces, AreNamed, with_piece}
-use Rattle.iris_need.proofs.Entries.{names_cmp, named_insert, with_piece_found, with_piece_named}
+use Rattle.iris_need.proofs.Pieces.{names_cmp, named_insert, with_piece_found, with_piece_named}
 use Rattle.iris_need.proofs.view.View.add.Goals as goal
 
 pub invariant_of-self-in_default : goal.invariant_of-self-in_default

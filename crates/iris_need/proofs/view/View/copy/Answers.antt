@@ -2,7 +2,7 @@ use Rattle.std.proofs.Common.{◌≡◌, ◌∙◌, sym, rules, ◌++◌, ◌∷
 use Rattle.std.specs.Map.Iter.{deref_pair}
 use Rattle.std.proofs.lemmas.Map.Iter.{rest_so_far}
 use Rattle.std.proofs.lemmas.List.{map-append}
-use Rattle.iris_need.proofs.Entries.{copied_more}
+use Rattle.iris_need.proofs.Pieces.{copied_more}
 use Rattle.iris_need.proofs.view.View.copy.Goals as goal
 
 pub loop-name-preserved-in_ok-insert : goal.loop-name-preserved-in_ok-insert

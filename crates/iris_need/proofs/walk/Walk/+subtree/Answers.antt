@@ -4,7 +4,7 @@ use Rattle.iris_need.specs.declared.need.Need.{Need}
 use Rattle.iris_need.specs.Needs.{is_under}
 use Rattle.iris_need.specs.Program.{each, subtree}
 use Rattle.iris_need.specs.Collected.{collected, full_at}
-use Rattle.iris_need.proofs.Walking.{under_child, popped, each_more, each_done, subtree_unknown, subtree_last, subtree_more}
+use Rattle.iris_need.proofs.Collected.{under_child, popped, each_more, each_done, subtree_unknown, subtree_last, subtree_more}
 use Rattle.iris_need.proofs.walk.Walk.+subtree.Goals as goal
 
 pub returns-in_default-clause-looks : goal.returns-in_default-clause-looks

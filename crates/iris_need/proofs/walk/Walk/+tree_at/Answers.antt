@@ -4,10 +4,10 @@ use Rattle.iris_tree.specs.declared.local.Local.{Local}
 use Rattle.iris_tree.specs.Universe.{Node, node, no_nodes, label_of}
 use Rattle.iris_need.specs.Needs.{is_under}
 use Rattle.iris_need.specs.Program.{subtree}
-use Rattle.iris_need.specs.Collected.{given}
+use Rattle.iris_need.specs.Collected.{value_given}
 use Rattle.iris_need.specs.Answers.{AreRising}
-use Rattle.iris_need.proofs.Walking.{under_child, popped}
-use Rattle.iris_need.proofs.Answering.{below_of, tree_unknown, tree_last, tree_label, grown_start, grown_more, grown_stops, grown_before, grown_done}
+use Rattle.iris_need.proofs.Collected.{under_child, popped}
+use Rattle.iris_need.proofs.Answers.{below_of, tree_unknown, tree_last, tree_label, grown_start, grown_more, grown_stops, grown_before, grown_done}
 use Rattle.iris_need.proofs.walk.Walk.+tree_at.Goals as goal
 
 pub returns-in_default-clause-tree : goal.returns-in_default-clause-tree
@@ -35,8 +35,8 @@ tree_at-requires t c =
 pub returns-in_default-below-clause-tree : goal.returns-in_default-below-clause-tree
 returns-in_default-below-clause-tree t c =
     let pushed : c.push.new.self ≡ c.args.name.now ++ c.child-item.result ∷ [] = c.in_ok-push.ensures.ok ∙ ap (λ (n : List Label). n ++ c.child-item.result ∷ []) c.loop-child.invariant.name in
-    let below : AreRising c.args.self.now.view.now → c.in_ok-below.below ≡ given c.args.self.now.above.now c.args.self.now.view.now (subtree (c.args.levels - 1) c.child-item.result (c.args.name.now ++ c.child-item.result ∷ [])) =
-    λ rising. c.in_ok-below.ensures.tree rising ∙ ap (λ (n : List Label). given c.args.self.now.above.now c.args.self.now.view.now (subtree (c.args.levels - 1) c.child-item.result n)) pushed in
+    let below : AreRising c.args.self.now.view.now → c.in_ok-below.below ≡ value_given c.args.self.now.above.now c.args.self.now.view.now (subtree (c.args.levels - 1) c.child-item.result (c.args.name.now ++ c.child-item.result ∷ [])) =
+    λ rising. c.in_ok-below.ensures.tree rising ∙ ap (λ (n : List Label). value_given c.args.self.now.above.now c.args.self.now.view.now (subtree (c.args.levels - 1) c.child-item.result n)) pushed in
     λ rising. sym (grown_stops c.args.self.now.above.now c.args.self.now.view.now (subtree c.args.levels c.args.label c.args.name.now) (below_of c.args.levels c.args.name.now) c.loop-child.tree c.loop-child.child-index c.in-Some.ids.now c.child-item.result c.child-item.result c.loop-child-test.true c.child-item.is (c.loop-child.invariant.tree rising) (sym (below rising) ∙ c.in_default-below.is))
 
 pub returns-in_default-below-clause-name : goal.returns-in_default-below-clause-name
@@ -47,9 +47,9 @@ returns-in_default-below-clause-name t c =
 pub returns-then-not-branch-clause-tree : goal.returns-then-not-branch-clause-tree
 returns-then-not-branch-clause-tree t c =
     let pushed : c.push.new.self ≡ c.args.name.now ++ c.child-item.result ∷ [] = c.in_ok-push.ensures.ok ∙ ap (λ (n : List Label). n ++ c.child-item.result ∷ []) c.loop-child.invariant.name in
-    let below : AreRising c.args.self.now.view.now → c.in_ok-below.below ≡ given c.args.self.now.above.now c.args.self.now.view.now (subtree (c.args.levels - 1) c.child-item.result (c.args.name.now ++ c.child-item.result ∷ [])) =
-    λ rising. c.in_ok-below.ensures.tree rising ∙ ap (λ (n : List Label). given c.args.self.now.above.now c.args.self.now.view.now (subtree (c.args.levels - 1) c.child-item.result n)) pushed in
-    let some : AreRising c.args.self.now.view.now → given c.args.self.now.above.now c.args.self.now.view.now (subtree (c.args.levels - 1) c.child-item.result (c.args.name.now ++ c.child-item.result ∷ [])) ≡ Some c.in-Some-below.below = λ rising. sym (below rising) ∙ c.in-Some-below.is in
+    let below : AreRising c.args.self.now.view.now → c.in_ok-below.below ≡ value_given c.args.self.now.above.now c.args.self.now.view.now (subtree (c.args.levels - 1) c.child-item.result (c.args.name.now ++ c.child-item.result ∷ [])) =
+    λ rising. c.in_ok-below.ensures.tree rising ∙ ap (λ (n : List Label). value_given c.args.self.now.above.now c.args.self.now.view.now (subtree (c.args.levels - 1) c.child-item.result n)) pushed in
+    let some : AreRising c.args.self.now.view.now → value_given c.args.self.now.above.now c.args.self.now.view.now (subtree (c.args.levels - 1) c.child-item.result (c.args.name.now ++ c.child-item.result ∷ [])) ≡ Some c.in-Some-below.below = λ rising. sym (below rising) ∙ c.in-Some-below.is in
     let here : AreRising c.args.self.now.view.now → label_of c.in-Some-below.below ≡ c.child-item.result =
     λ rising. tree_label c.args.self.now.above.now c.args.self.now.view.now (c.args.levels - 1) c.child-item.result (c.args.name.now ++ c.child-item.result ∷ []) c.in-Some-below.below (under_child c.args.name.now c.args.self.now.above.now c.child-item.result c.requires.under) (some rising) in
     let added = λ (rising : AreRising c.args.self.now.view.now). c.in_ok-add_last.ensures (grown_before c.args.self.now.above.now c.args.self.now.view.now (subtree c.args.levels c.args.label c.args.name.now) (below_of c.args.levels c.args.name.now) c.loop-child.tree c.in-Some-below.below c.loop-child.child-index c.in-Some.ids.now c.child-item.result c.child-item.result c.loop-child-test.true c.child-item.is (c.loop-child.invariant.tree rising) (here rising)) in
@@ -65,9 +65,9 @@ returns-then-not-branch-clause-name t c =
 pub loop-child-preserved : goal.loop-child-preserved
 loop-child-preserved t c =
     let pushed : c.push.new.self ≡ c.args.name.now ++ c.child-item.result ∷ [] = c.in_ok-push.ensures.ok ∙ ap (λ (n : List Label). n ++ c.child-item.result ∷ []) c.loop-child.invariant.name in
-    let below : AreRising c.args.self.now.view.now → c.in_ok-below.below ≡ given c.args.self.now.above.now c.args.self.now.view.now (subtree (c.args.levels - 1) c.child-item.result (c.args.name.now ++ c.child-item.result ∷ [])) =
-    λ rising. c.in_ok-below.ensures.tree rising ∙ ap (λ (n : List Label). given c.args.self.now.above.now c.args.self.now.view.now (subtree (c.args.levels - 1) c.child-item.result n)) pushed in
-    let some : AreRising c.args.self.now.view.now → given c.args.self.now.above.now c.args.self.now.view.now (subtree (c.args.levels - 1) c.child-item.result (c.args.name.now ++ c.child-item.result ∷ [])) ≡ Some c.in-Some-below.below = λ rising. sym (below rising) ∙ c.in-Some-below.is in
+    let below : AreRising c.args.self.now.view.now → c.in_ok-below.below ≡ value_given c.args.self.now.above.now c.args.self.now.view.now (subtree (c.args.levels - 1) c.child-item.result (c.args.name.now ++ c.child-item.result ∷ [])) =
+    λ rising. c.in_ok-below.ensures.tree rising ∙ ap (λ (n : List Label). value_given c.args.self.now.above.now c.args.self.now.view.now (subtree (c.args.levels - 1) c.child-item.result n)) pushed in
+    let some : AreRising c.args.self.now.view.now → value_given c.args.self.now.above.now c.args.self.now.view.now (subtree (c.args.levels - 1) c.child-item.result (c.args.name.now ++ c.child-item.result ∷ [])) ≡ Some c.in-Some-below.below = λ rising. sym (below rising) ∙ c.in-Some-below.is in
     let here : AreRising c.args.self.now.view.now → label_of c.in-Some-below.below ≡ c.child-item.result =
     λ rising. tree_label c.args.self.now.above.now c.args.self.now.view.now (c.args.levels - 1) c.child-item.result (c.args.name.now ++ c.child-item.result ∷ []) c.in-Some-below.below (under_child c.args.name.now c.args.self.now.above.now c.child-item.result c.requires.under) (some rising) in
     let added = λ (rising : AreRising c.args.self.now.view.now). c.in_ok-add_last.ensures (grown_before c.args.self.now.above.now c.args.self.now.view.now (subtree c.args.levels c.args.label c.args.name.now) (below_of c.args.levels c.args.name.now) c.loop-child.tree c.in-Some-below.below c.loop-child.child-index c.in-Some.ids.now c.child-item.result c.child-item.result c.loop-child-test.true c.child-item.is (c.loop-child.invariant.tree rising) (here rising)) in

@@ -1,7 +1,7 @@
 use Rattle.std.proofs.Common.{◌≡◌}
 use Rattle.iris_need.specs.Program.{subtree}
 use Rattle.iris_need.specs.Answers.{AreRising}
-use Rattle.iris_need.proofs.Answering.{IsGrown, below_of}
+use Rattle.iris_need.proofs.Answers.{IsGrown, below_of}
 use Rattle.iris_need.proofs.walk.Walk.+tree_at.Given as goal
 
 abbrev pub decreases-tree_at : goal.decreases-tree_at

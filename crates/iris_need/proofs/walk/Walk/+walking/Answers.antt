@@ -12,20 +12,20 @@ use Rattle.iris_need.specs.Pieces.{piece_at}
 use Rattle.iris_need.specs.Needs.{is_under}
 use Rattle.iris_need.specs.Program.{gather}
 use Rattle.iris_need.specs.ThinProgram.{all_have_text, thin_goes}
-use Rattle.iris_need.specs.Collected.{collected, given, visited}
-use Rattle.iris_need.proofs.Walking.{under_child, one_more, all_done, no_ids, with_ids, tested_stops, tested_goes, other_kind}
+use Rattle.iris_need.specs.Collected.{collected, value_given, visited}
+use Rattle.iris_need.proofs.Collected.{under_child, one_more, all_done, no_ids, with_ids, tested_stops, tested_goes, other_kind}
 use Rattle.iris_need.proofs.walk.Walk.+walking.Goals as goal
 
 pub test_node-returns-then-not-holds-clause-looks : goal.test_node-returns-then-not-holds-clause-looks
 test_node-returns-then-not-holds-clause-looks t c =
     let looks = c.in_ok-all_hold.ensures.looks ∙ ap (λ (ps : List Expression). collected c.args.self.now.takes c.args.self.now.above.now c.args.self.now.view.now c.args.needs.now (all_have_text (states.Test c.args.route.now.number ∷ []) (filter_map equality_of ps) c.args.name.now c.args.label)) c.as_slice-predicates.ensures in
-    let value = c.in_ok-all_hold.ensures.value ∙ ap (λ (ps : List Expression). given c.args.self.now.above.now c.args.self.now.view.now (all_have_text (states.Test c.args.route.now.number ∷ []) (filter_map equality_of ps) c.args.name.now c.args.label)) c.as_slice-predicates.ensures in
+    let value = c.in_ok-all_hold.ensures.value ∙ ap (λ (ps : List Expression). value_given c.args.self.now.above.now c.args.self.now.view.now (all_have_text (states.Test c.args.route.now.number ∷ []) (filter_map equality_of ps) c.args.name.now c.args.label)) c.as_slice-predicates.ensures in
     looks ∙ sym (tested_stops c.args.self.now.takes c.args.self.now.above.now c.args.self.now.view.now c.args.needs.now c.args.route.now.number (thin.thin_step c.args.route.now.step.now) c.args.name.now c.args.label (thin_goes (c.args.route.now.number + 1) (thin_of c.args.route.now.rest.now) c.args.name.now c.args.label) c.in_ok-all_hold.field-0 value (sym c.unwrap_or-holds.ensures ∙ c.if-not-holds.true))
 
 pub test_node-returns-clause-looks : goal.test_node-returns-clause-looks
 test_node-returns-clause-looks t c =
     let looks = c.in_ok-all_hold.ensures.looks ∙ ap (λ (ps : List Expression). collected c.args.self.now.takes c.args.self.now.above.now c.args.self.now.view.now c.args.needs.now (all_have_text (states.Test c.args.route.now.number ∷ []) (filter_map equality_of ps) c.args.name.now c.args.label)) c.as_slice-predicates.ensures in
-    let value = c.in_ok-all_hold.ensures.value ∙ ap (λ (ps : List Expression). given c.args.self.now.above.now c.args.self.now.view.now (all_have_text (states.Test c.args.route.now.number ∷ []) (filter_map equality_of ps) c.args.name.now c.args.label)) c.as_slice-predicates.ensures in
+    let value = c.in_ok-all_hold.ensures.value ∙ ap (λ (ps : List Expression). value_given c.args.self.now.above.now c.args.self.now.view.now (all_have_text (states.Test c.args.route.now.number ∷ []) (filter_map equality_of ps) c.args.name.now c.args.label)) c.as_slice-predicates.ensures in
     on_ok_weaker c.continue_after.result (λ h. h ∙ ap (λ (ns : List Need). collected c.args.self.now.takes c.args.self.now.above.now c.args.self.now.view.now ns (thin_goes (c.args.route.now.number + 1) (thin_of c.args.route.now.rest.now) c.args.name.now c.args.label)) looks
     ∙ sym (tested_goes c.args.self.now.takes c.args.self.now.above.now c.args.self.now.view.now c.args.needs.now c.args.route.now.number (thin.thin_step c.args.route.now.step.now) c.args.name.now c.args.label (thin_goes (c.args.route.now.number + 1) (thin_of c.args.route.now.rest.now) c.args.name.now c.args.label) c.in_ok-all_hold.field-0 value (sym c.unwrap_or-holds.ensures ∙ c.if-not-holds.false))) c.continue_after.ensures.looks
 

@@ -2,7 +2,7 @@ use Rattle.std.proofs.Common.{◌≡◌, ◌+◌, ◌*◌, ◌∷◌, [], drop, 
 use Rattle.iris_xpath.specs.ThinQuery.{thin_of}
 use Rattle.iris_xpath.specs.ThinQuery as thin
 use Rattle.iris_need.specs.Program.{gather}
-use Rattle.iris_need.specs.ThinProgram.{thin_step, thin_goes}
+use Rattle.iris_need.specs.ThinProgram.{thin_step_program, thin_goes}
 use Rattle.iris_need.specs.Collected.{collected, visited}
 use Rattle.iris_need.proofs.walk.Walk.+walking.Given as goal
 
@@ -20,6 +20,6 @@ decreases-test_node l = 4 * length l.route.now.rest.now + 1
 
 abbrev pub invariant-take_step-loop-child : goal.invariant-take_step-loop-child
 invariant-take_step-loop-child l = record {
-  looks : collected l.self.takes l.self.above.now l.self.view.now l.needs (gather (visited l.route.number (thin.thin_step l.route.step.now) (thin_of l.route.rest.now) l.fn.name) (drop l.child-index l.child-items)) ≡ collected l.self.takes l.self.above.now l.self.view.now l.fn.needs (thin_step (l.fn.state ∷ []) l.route.number (thin.thin_step l.route.step.now) (thin_goes (l.route.number + 1) (thin_of l.route.rest.now)) l.fn.name);
+  looks : collected l.self.takes l.self.above.now l.self.view.now l.needs (gather (visited l.route.number (thin.thin_step l.route.step.now) (thin_of l.route.rest.now) l.fn.name) (drop l.child-index l.child-items)) ≡ collected l.self.takes l.self.above.now l.self.view.now l.fn.needs (thin_step_program (l.fn.state ∷ []) l.route.number (thin.thin_step l.route.step.now) (thin_goes (l.route.number + 1) (thin_of l.route.rest.now)) l.fn.name);
   name : l.name ≡ l.fn.name;
 }

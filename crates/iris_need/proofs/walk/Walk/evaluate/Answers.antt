@@ -7,7 +7,7 @@ use Rattle.iris_need.specs.Needs.{is_under}
 use Rattle.iris_need.specs.Program.{gather}
 use Rattle.iris_need.specs.Starts.{top_enter}
 use Rattle.iris_need.specs.Collected.{collected}
-use Rattle.iris_need.proofs.Walking.{empty_is, under_itself}
+use Rattle.iris_need.proofs.Collected.{empty_is, under_itself}
 use Rattle.iris_need.proofs.Starts.{collected_top, from_node_on}
 use Rattle.iris_need.proofs.walk.Walk.evaluate.Goals as goal
 

@@ -1,5 +1,5 @@
 use Rattle.iris_xpath.specs.ThinQuery.{thin_of}
-use Rattle.iris_need.proofs.Answering.{no_steps}
+use Rattle.iris_need.proofs.Answers.{no_steps}
 use Rattle.iris_need.proofs.walk.Walk.find_from_document.Goals as goal
 
 pub returns-in_default : goal.returns-in_default

@@ -2,7 +2,7 @@ use Rattle.std.proofs.Common.{◌≡◌, ◌∙◌, sym, ap, rules, true, false,
 use Rattle.std.specs.Str.{bytes_eq}
 use Rattle.iris_base.specs.Attribute.{is_id}
 use Rattle.iris_need.specs.Collected.{full_at}
-use Rattle.iris_need.proofs.Walking.{text_by_id, text_unknown, text_known}
+use Rattle.iris_need.proofs.Collected.{text_by_id, text_unknown, text_known}
 use Rattle.iris_need.proofs.walk.Walk.has_text.Goals as goal
 
 pub returns-then-is_id-clause-looks : goal.returns-then-is_id-clause-looks

@@ -1,7 +1,7 @@
 use Rattle.std.proofs.Common.{◌∙◌}
 use Rattle.iris_xpath.specs.ThinQuery.{thin_of}
 use Rattle.iris_need.specs.ThinProgram.{thin_enter}
-use Rattle.iris_need.proofs.Walking.{all_done}
+use Rattle.iris_need.proofs.Collected.{all_done}
 use Rattle.iris_need.proofs.Starts.{enter_more}
 use Rattle.iris_need.proofs.walk.Walk.resume_all.Goals as goal
 

@@ -1,7 +1,7 @@
 use Rattle.std.proofs.Common.{◌∙◌, refl}
 use Rattle.iris_xpath.specs.ThinQuery.{thin_of}
 use Rattle.iris_need.specs.Starts.{top_enter}
-use Rattle.iris_need.proofs.Walking.{one_more, all_done}
+use Rattle.iris_need.proofs.Collected.{one_more, all_done}
 use Rattle.iris_need.proofs.walk.Walk.resume_all_at_document.Goals as goal
 
 pub loop-state-preserved : goal.loop-state-preserved

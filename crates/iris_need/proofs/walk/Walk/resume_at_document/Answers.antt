@@ -3,7 +3,7 @@ use Rattle.iris_xpath.specs.ThinQuery.{thin_of}
 use Rattle.iris_need.specs.declared.need.State.{State}
 use Rattle.iris_need.specs.Starts.{top_enter}
 use Rattle.iris_need.specs.Collected.{collected}
-use Rattle.iris_need.proofs.Walking.{collected_give}
+use Rattle.iris_need.proofs.Collected.{collected_give}
 use Rattle.iris_need.proofs.walk.Walk.resume_at_document.Goals as goal
 
 pub returns-in-Whole-clause-looks : goal.returns-in-Whole-clause-looks

@@ -4,7 +4,7 @@ use Rattle.iris_xpath.specs.ThinQuery.{thin_of}
 use Rattle.iris_need.specs.declared.need.State.{State}
 use Rattle.iris_need.specs.ThinProgram.{thin_tests, thin_enter}
 use Rattle.iris_need.specs.Collected.{collected}
-use Rattle.iris_need.proofs.Walking.{collected_give}
+use Rattle.iris_need.proofs.Collected.{collected_give}
 use Rattle.iris_need.proofs.walk.Walk.resume_state.Goals as goal
 
 pub returns-in-None-clause-looks : goal.returns-in-None-clause-looks

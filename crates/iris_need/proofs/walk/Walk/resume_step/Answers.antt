@@ -1,10 +1,10 @@
 use Rattle.std.proofs.Common.{◌∙◌, sym, ap, List, []}
 use Rattle.iris_xpath.specs.Thin.{Main}
-use Rattle.iris_need.specs.Starts.{entered}
+use Rattle.iris_need.specs.Starts.{steps_entered}
 use Rattle.iris_need.specs.Collected.{collected}
-use Rattle.iris_need.proofs.Walking.{collected_give}
+use Rattle.iris_need.proofs.Collected.{collected_give}
 use Rattle.iris_need.proofs.walk.Walk.resume_step.Goals as goal
 
 pub returns-in-None-clause-looks : goal.returns-in-None-clause-looks
 returns-in-None-clause-looks c =
-    sym (collected_give c.args.self.now.takes c.args.self.now.above.now c.args.self.now.view.now c.args.needs.now []) ∙ ap (λ (ms : List Main). collected c.args.self.now.takes c.args.self.now.above.now c.args.self.now.view.now c.args.needs.now (entered c.args.state c.args.i ms c.args.name.now)) (sym c.in-None.ensures.cut)
+    sym (collected_give c.args.self.now.takes c.args.self.now.above.now c.args.self.now.view.now c.args.needs.now []) ∙ ap (λ (ms : List Main). collected c.args.self.now.takes c.args.self.now.above.now c.args.self.now.view.now c.args.needs.now (steps_entered c.args.state c.args.i ms c.args.name.now)) (sym c.in-None.ensures.cut)

@@ -2,7 +2,7 @@ use Rattle.std.proofs.Common.{◌∙◌, sym, ap, List, []}
 use Rattle.iris_xpath.specs.Thin.{Main}
 use Rattle.iris_need.specs.ThinProgram.{thin_from}
 use Rattle.iris_need.specs.Collected.{collected}
-use Rattle.iris_need.proofs.Walking.{collected_give}
+use Rattle.iris_need.proofs.Collected.{collected_give}
 use Rattle.iris_need.proofs.walk.Walk.step_from_document.Goals as goal
 
 pub returns-in-None-clause-looks : goal.returns-in-None-clause-looks

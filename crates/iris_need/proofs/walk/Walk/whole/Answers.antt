@@ -2,7 +2,7 @@ use Rattle.std.proofs.Common.{◌∙◌, sym, ap, ℕ}
 use Rattle.std.proofs.lemmas.Result.{on_ok_weaker}
 use Rattle.iris_need.specs.Program.{subtree}
 use Rattle.iris_need.specs.Collected.{collected}
-use Rattle.iris_need.proofs.Walking.{whole_is}
+use Rattle.iris_need.proofs.Collected.{whole_is}
 use Rattle.iris_need.proofs.walk.Walk.whole.Goals as goal
 
 pub returns-clause-looks : goal.returns-clause-looks

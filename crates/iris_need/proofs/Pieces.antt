@@ -20,10 +20,11 @@ use Rattle.iris_fragment.specs.declared.piece.Level.{Level}
 use Rattle.iris_need.specs.declared.need.Need.{Need}
 use Rattle.iris_need.specs.declared.need.State.{State}
 use Rattle.iris_need.specs.declared.needs.Asked.{Asked}
-use Rattle.iris_need.specs.Pieces.{Pieces, AreNamed, piece_at, pieces_in, piece_cmp, AreOrderedPieces, joined, with_piece}
+use Rattle.iris_need.specs.Pieces.{Pieces, AreNamed, piece_at, pieces_in, piece_cmp, AreOrderedPieces, joined_pieces, with_piece}
 use Rattle.iris_need.specs.Needs.{greater, with_state, with_look}
 use Rattle.iris_need.specs.Collected.{need_of, needs_of}
 
+-- names in their order
 abbrev pub names_cmp : List Label → List Label → Ordering
 names_cmp = slice_cmp label_cmp
 
@@ -78,6 +79,7 @@ named_put : (es : Pieces) (k : List Label) (v : Piece) → AllByRecursion IsName
 named_put [] k v h n = (n, tt)
 named_put (e ∷ es) k v h n = put_named e es k v h n (named_put es k v h.1 n) (names_cmp k e.0) refl
 
+-- a piece that is put under its name
 pub named_insert : (es : Pieces) (k : List Label) (v : Piece) → AreNamed es → k ≡ v.name → AreNamed (insert_entry names_cmp es k v)
 named_insert es k v h n = All-from_recursion IsNamed _ (named_put es k v (recursion_from_All IsNamed es h) n)
 
@@ -94,21 +96,23 @@ found_name (e ∷ es) name v h f = name_here e es name v h.0 f (found_name es na
 
 -- a piece at a name that has one
 pub with_piece_found : (es new : Pieces) (piece old : Piece) → IsStrictlySortedBy names_cmp (keys_of es) → piece_at es piece.name ≡ Some old
-    → new ≡ set_value (is_at (names_cmp piece.name)) es (joined (Some old) piece) → new ≡ with_piece es piece
+    → new ≡ set_value (is_at (names_cmp piece.name)) es (joined_pieces (Some old) piece) → new ≡ with_piece es piece
 with_piece_found es new piece old s f n =
-    n ∙ sym (insert_found names_total es piece.name old (joined (Some old) piece) s f)
-    ∙ ap (λ (o : Option Piece). insert_entry names_cmp es piece.name (joined o piece)) (sym f)
+    n ∙ sym (insert_found names_total es piece.name old (joined_pieces (Some old) piece) s f)
+    ∙ ap (λ (o : Option Piece). insert_entry names_cmp es piece.name (joined_pieces o piece)) (sym f)
 
+-- a piece at a name that has none
 pub with_piece_absent : (es : Pieces) (piece : Piece) → piece_at es piece.name ≡ None → insert_entry names_cmp es piece.name piece ≡ with_piece es piece
-with_piece_absent es piece f = ap (λ (o : Option Piece). insert_entry names_cmp es piece.name (joined o piece)) (sym f)
+with_piece_absent es piece f = ap (λ (o : Option Piece). insert_entry names_cmp es piece.name (joined_pieces o piece)) (sym f)
 
-joined_name : (o : Option Piece) (piece : Piece) → ((v : Piece) → o ≡ Some v → v.name ≡ piece.name) → piece.name ≡ (joined o piece).name
+joined_name : (o : Option Piece) (piece : Piece) → ((v : Piece) → o ≡ Some v → v.name ≡ piece.name) → piece.name ≡ (joined_pieces o piece).name
 joined_name None piece h = refl
 joined_name (Some v) piece h = sym (h v refl)
 
+-- with one piece more each still stands under its name
 pub with_piece_named : (es : Pieces) (piece : Piece) → AreNamed es → AreNamed (with_piece es piece)
 with_piece_named es piece h =
-    named_insert es piece.name (joined (piece_at es piece.name) piece) h (joined_name (piece_at es piece.name) piece (λ v f. found_name es piece.name v (recursion_from_All IsNamed es h) f))
+    named_insert es piece.name (joined_pieces (piece_at es piece.name) piece) h (joined_name (piece_at es piece.name) piece (λ v f. found_name es piece.name v (recursion_from_All IsNamed es h) f))
 
 first_piece : (e : List Label × Piece) (es : Pieces) → IsNamed e → AllByRecursion IsNamed es → AllByRecursion (λ k. names_cmp e.0 k ≡ Less) (keys_of es) → AllByRecursion (λ p. piece_cmp e.1 p ≡ Less) (pieces_in es)
 first_piece e [] n h s = tt
@@ -134,6 +138,7 @@ copied_more all so_far left rest new copy name n piece p s a l c i en ep =
 
 -- ---- needs
 
+-- the entries of the map of needs
 abbrev pub Entries : Type 0
 Entries = List (List Label × Asked)
 
@@ -150,6 +155,7 @@ absent_look : (es : Entries) (k : List Label) (v : Asked) → lookup (is_at (nam
 absent_look [] k v f = refl
 absent_look (e ∷ es) k v f = absent_here e es k v f (absent_look es k v) (names_cmp k e.0) refl
 
+-- a look at a name that has none yet, whatever form it has
 pub look_absent : (es : Entries) (k : List Label) (v : Asked) (look : Need) → lookup (is_at (names_cmp k)) es ≡ None → need_of (k, v) ≡ look → needs_of (insert_entry names_cmp es k v) ≡ with_look (needs_of es) look
 look_absent es k v look f n = absent_look es k v f ∙ ap (λ (need : Need). with_look (needs_of es) need) n
 

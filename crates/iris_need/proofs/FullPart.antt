@@ -31,6 +31,7 @@ all_named : (P Q : List Label → Type 0) → ((name : List Label) → P name �
 all_named P Q f [] h = tt
 all_named P Q f (look ∷ looks) h = (f look.name h.0, all_named P Q f looks h.1)
 
+-- what holds of the names of two lists of looks
 pub named_append : (P : List Label → Type 0) (looks more : List Need) → AllNamed P looks → AllNamed P more → AllNamed P (looks ++ more)
 named_append P [] more h k = k
 named_append P (look ∷ looks) more h k = (h.0, named_append P looks more h.1 k)
@@ -144,9 +145,11 @@ one_under name (nodes c cs) b h = elim h [ inl here ↦ (label_of c, here.0, her
 own_before : (name : List Label) (ns : Nodes) (a b : List Label) → name ≡ a → IsUnderOne name ns b → IsBefore a b
 own_before name ns a b same h = let k = one_under name ns b h in ap (λ x. slice_cmp label_cmp x b) (sym same) ∙ ap (slice_cmp label_cmp name) k.2 ∙ less_below name k.0 k.1
 
+-- no look below no node
 pub no_blocks : (name : List Label) (ns : Nodes) → Blocks name ns [] []
 no_blocks name ns = record { below = tt; full_at = refl }
 
+-- no look at and below a name
 pub no_block : (name : List Label) → Block name [] []
 no_block name = record { under = tt; full_at = refl }
 

@@ -32,11 +32,11 @@ use Rattle.iris_need.specs.Needs.{is_under, seen_from, evaluation, missing_of, f
 use Rattle.iris_need.specs.Run.{Run, give, both, next, after, pair_value, run, Seen, Out}
 use Rattle.iris_need.specs.Program.{each, gather, where_so, room, node_spot, subtree, found}
 use Rattle.iris_need.specs.ThinProgram.{all_have_text, thin_tested, thin_goes, thin_from}
-use Rattle.iris_need.specs.Collected.{given, full_in, full_of, full_at, visited}
+use Rattle.iris_need.specs.Collected.{value_given, full_in, full_of, full_at, visited}
 use Rattle.iris_need.specs.Answers.{AreRising, AreBefore, items_if, found_after}
 use Rattle.iris_need.proofs.Determined.{determines}
-use Rattle.iris_need.proofs.Thin.{thin_program_is}
-use Rattle.iris_need.proofs.Walking.{cut_at, no_full, with_full, no_ids, with_ids, given_give, next_undecided, next_decided}
+use Rattle.iris_need.proofs.ThinProgram.{thin_program_is}
+use Rattle.iris_need.proofs.Collected.{cut_at, no_full, with_full, no_ids, with_ids, given_give, next_undecided, next_decided}
 
 -- ---- values
 
@@ -45,12 +45,13 @@ value_of_giving None f looks = refl
 value_of_giving (Some a) f looks = refl
 
 -- what is made of a program's value
-pub given_next : (above : List Label) (pieces : Pieces) {A B : Type 0} (r : Run A) (f : A → B) → given above pieces (next r (λ a. give (f a))) ≡ option_map f (given above pieces r)
-unfolding given
+pub given_next : (above : List Label) (pieces : Pieces) {A B : Type 0} (r : Run A) (f : A → B) → value_given above pieces (next r (λ a. give (f a))) ≡ option_map f (value_given above pieces r)
+unfolding value_given
 given_next above pieces r f = value_of_giving (run (seen_from above (view_of pieces)) r).value f (run (seen_from above (view_of pieces)) r).log
 
-pub given_both : (above : List Label) (pieces : Pieces) {A B C : Type 0} (f : A → B → C) (r : Run A) (s : Run B) → given above pieces (both f r s) ≡ pair_value f (given above pieces r) (given above pieces s)
-unfolding given
+-- two programs give a value where each gives one
+pub given_both : (above : List Label) (pieces : Pieces) {A B C : Type 0} (f : A → B → C) (r : Run A) (s : Run B) → value_given above pieces (both f r s) ≡ pair_value f (value_given above pieces r) (value_given above pieces s)
+unfolding value_given
 given_both above pieces f r s = refl
 
 -- ---- the last child
@@ -84,9 +85,11 @@ no_twin (n ∷ ns) l h =
     let other : label_eq (label_of n) l ≡ false = labels_ties (label_of n) l ∙ rw h.0 refl in
     rw other (no_twin ns l h.1)
 
+-- no child has a label greater than those of all children
 pub twin_is_none : (tree below : Node) → AreBefore (labels_of (children_of tree)) (label_of below) → child_of (label_of below) (children_of tree) ≡ None
 twin_is_none tree below h = no_twin (children_of tree) (label_of below) h
 
+-- a child whose label is the greatest is put last
 pub child_last : (tree below : Node) → AreBefore (labels_of (children_of tree)) (label_of below) → (children_of (with_child tree below) ≡ children_of tree ++ below ∷ []) × (label_of (with_child tree below) ≡ label_of tree) × (local_of (with_child tree below) ≡ local_of tree)
 child_last (node l local ns) below h = (list_of-nodes_of (insert_node below (list_of ns)) ∙ insert_greatest (list_of ns) below h, refl, refl)
 
@@ -102,6 +105,7 @@ rising_of : (o : Option Piece) (s : Seen) → IfSome o (λ piece. IsStrictlySort
 rising_of None s rising h = absurd (cc)
 rising_of (Some piece) s rising h = rising_in piece piece.full s rising h
 
+-- the ids of a node rise where those of all pieces do
 pub rising_at : (pieces : Pieces) (name : List Label) (s : Seen) → AreRising pieces → full_at pieces name ≡ Some s → IsStrictlySortedBy label_cmp s.ids
 rising_at pieces name s rising h = rising_of (piece_at pieces name) s (All-lookup (λ piece. IsStrictlySortedBy label_cmp piece.ids) _ pieces rising) h
 
@@ -155,34 +159,39 @@ agrees_rising document pieces o h = All-from_recursion _ pieces (all_rise docume
 
 -- ---- a tree that grows by its children
 
+-- a node with more children, behind those that it has
 abbrev pub with_more : Node → List Node → Node
 with_more tree rest = node (label_of tree) (local_of tree) (nodes_of (children_of tree ++ rest))
 
 -- what the program of a subtree gives is the tree so far with what is left
 pub record IsGrown (above : List Label) (pieces : Pieces) (whole : Run Node) (F : Label → Run Node) (tree : Node) (i : ℕ) (ids : List Label) : Type 0 where
-  pub tells : given above pieces whole ≡ option_map (with_more tree) (given above pieces (each F (drop i ids)))
+  pub tells : value_given above pieces whole ≡ option_map (with_more tree) (value_given above pieces (each F (drop i ids)))
   pub labels : labels_of (children_of tree) ≡ take i ids
   pub rising : IsStrictlySortedBy label_cmp ids
 
+-- what is made of each child of a node, from its level and name
 abbrev pub below_of : ℕ → List Label → Label → Run Node
 below_of levels name child = subtree (levels - 1) child (name ++ child ∷ [])
 
-pub tree_unknown : (above : List Label) (pieces : Pieces) (levels : ℕ) (l : Label) (name : List Label) → is_under name above ≡ true → full_at pieces name ≡ None → given above pieces (subtree levels l name) ≡ None
+-- no tree is made of a node that is not known
+pub tree_unknown : (above : List Label) (pieces : Pieces) (levels : ℕ) (l : Label) (name : List Label) → is_under name above ≡ true → full_at pieces name ≡ None → value_given above pieces (subtree levels l name) ≡ None
 tree_unknown above pieces zero l name u p = (no_full Unmet above pieces [] name (states.Whole ∷ []) _ u p).1
 tree_unknown above pieces (suc levels) l name u p = (no_full Unmet above pieces [] name (states.Whole ∷ []) _ u p).1
 
-pub tree_last : (above : List Label) (pieces : Pieces) (levels : ℕ) (l : Label) (name : List Label) (s : Seen) → is_under name above ≡ true → full_at pieces name ≡ Some s → levels ≡ 0 → given above pieces (subtree levels l name) ≡ Some (node l s.local no_nodes)
+-- at the last level a tree is the node alone
+pub tree_last : (above : List Label) (pieces : Pieces) (levels : ℕ) (l : Label) (name : List Label) (s : Seen) → is_under name above ≡ true → full_at pieces name ≡ Some s → levels ≡ 0 → value_given above pieces (subtree levels l name) ≡ Some (node l s.local no_nodes)
 tree_last above pieces zero l name s u p z = (with_full Unmet above pieces [] name (states.Whole ∷ []) s _ u p).1 ∙ given_give above pieces _
 tree_last above pieces (suc levels) l name s u p z = absurd (cc)
 
 tree_more : (above : List Label) (pieces : Pieces) (levels : ℕ) (l : Label) (name : List Label) (s : Seen) → is_under name above ≡ true → full_at pieces name ≡ Some s → 0 < levels
-    → given above pieces (subtree levels l name) ≡ option_map (λ below. node l s.local (nodes_of below)) (given above pieces (each (below_of levels name) s.ids))
+    → value_given above pieces (subtree levels l name) ≡ option_map (λ below. node l s.local (nodes_of below)) (value_given above pieces (each (below_of levels name) s.ids))
 tree_more above pieces zero l name s u p z = absurd (omega arith)
 tree_more above pieces (suc levels) l name s u p z =
     let down : suc levels - 1 ≡ levels = omega arith in
     (with_full Unmet above pieces [] name (states.Whole ∷ []) s _ u p).1 ∙ given_next above pieces (each (λ child. subtree levels child (name ++ child ∷ [])) s.ids) (λ below. node l s.local (nodes_of below))
-    ∙ ap (λ (k : ℕ). option_map (λ below. node l s.local (nodes_of below)) (given above pieces (each (λ child. subtree k child (name ++ child ∷ [])) s.ids))) (sym down)
+    ∙ ap (λ (k : ℕ). option_map (λ below. node l s.local (nodes_of below)) (value_given above pieces (each (λ child. subtree k child (name ++ child ∷ [])) s.ids))) (sym down)
 
+-- a tree begins with no child
 pub grown_start : (above : List Label) (pieces : Pieces) (levels : ℕ) (l : Label) (name : List Label) (s : Seen) (tree : Node) → is_under name above ≡ true → full_at pieces name ≡ Some s → 0 < levels → tree ≡ node l s.local no_nodes → AreRising pieces
     → IsGrown above pieces (subtree levels l name) (below_of levels name) tree 0 s.ids
 grown_start above pieces levels l name s tree u p z t rising =
@@ -199,10 +208,11 @@ label_given (Some below) l local t h =
     let same : t ≡ node l local (nodes_of below) = cc in
     ap label_of same
 
-pub tree_label : (above : List Label) (pieces : Pieces) (levels : ℕ) (l : Label) (name : List Label) (t : Node) → is_under name above ≡ true → given above pieces (subtree levels l name) ≡ Some t → label_of t ≡ l
+-- a tree has the label of its node
+pub tree_label : (above : List Label) (pieces : Pieces) (levels : ℕ) (l : Label) (name : List Label) (t : Node) → is_under name above ≡ true → value_given above pieces (subtree levels l name) ≡ Some t → label_of t ≡ l
 tree_label above pieces levels l name t u h = by_seen (full_at pieces name) refl levels h
   where
-    by_seen : (o : Option Seen) → full_at pieces name ≡ o → (levels : ℕ) → given above pieces (subtree levels l name) ≡ Some t → label_of t ≡ l
+    by_seen : (o : Option Seen) → full_at pieces name ≡ o → (levels : ℕ) → value_given above pieces (subtree levels l name) ≡ Some t → label_of t ≡ l
     by_seen None p levels h =
         let bad : None ≡ Some t = sym (tree_unknown above pieces levels l name u p) ∙ h in
         absurd (cc)
@@ -210,7 +220,7 @@ tree_label above pieces levels l name t u h = by_seen (full_at pieces name) refl
         let same : Some (node l s.local no_nodes) ≡ Some t = sym (tree_last above pieces zero l name s u p refl) ∙ h in
         let is : t ≡ node l s.local no_nodes = cc in
         ap label_of is
-    by_seen (Some s) p (suc levels) h = label_given (given above pieces (each (below_of (suc levels) name) s.ids)) l s.local t (sym (tree_more above pieces (suc levels) l name s u p (omega arith)) ∙ h)
+    by_seen (Some s) p (suc levels) h = label_given (value_given above pieces (each (below_of (suc levels) name) s.ids)) l s.local t (sym (tree_more above pieces (suc levels) l name s u p (omega arith)) ∙ h)
 
 more_is : (tree after below : Node) (o : Option (List Node)) → children_of after ≡ children_of tree ++ below ∷ [] → label_of after ≡ label_of tree → local_of after ≡ local_of tree
     → option_map (with_more tree) (pair_value (λ y ys. y ∷ ys) (Some below) o) ≡ option_map (with_more after) o
@@ -221,24 +231,27 @@ labels_more : (ns : List Node) (n : Node) → labels_of (ns ++ n ∷ []) ≡ lab
 labels_more [] n = refl
 labels_more (m ∷ ns) n = ap (λ (ls : List Label). label_of m ∷ ls) (labels_more ns n)
 
-each_cut : (above : List Label) (pieces : Pieces) (F : Label → Run Node) (ids : List Label) (i : ℕ) (x d : Label) → i < length ids → x ≡ get_or ids i d → given above pieces (each F (drop i ids)) ≡ pair_value (λ y ys. y ∷ ys) (given above pieces (F x)) (given above pieces (each F (drop (i + 1) ids)))
-each_cut above pieces F ids i x d h e = ap (λ (ls : List Label). given above pieces (each F ls)) (cut_at ids i x d h e) ∙ given_both above pieces (λ y ys. y ∷ ys) (F x) (each F (drop (i + 1) ids))
+each_cut : (above : List Label) (pieces : Pieces) (F : Label → Run Node) (ids : List Label) (i : ℕ) (x d : Label) → i < length ids → x ≡ get_or ids i d → value_given above pieces (each F (drop i ids)) ≡ pair_value (λ y ys. y ∷ ys) (value_given above pieces (F x)) (value_given above pieces (each F (drop (i + 1) ids)))
+each_cut above pieces F ids i x d h e = ap (λ (ls : List Label). value_given above pieces (each F ls)) (cut_at ids i x d h e) ∙ given_both above pieces (λ y ys. y ∷ ys) (F x) (each F (drop (i + 1) ids))
 
-pub grown_more : (above : List Label) (pieces : Pieces) (whole : Run Node) (F : Label → Run Node) (tree after below : Node) (i : ℕ) (ids : List Label) (x d : Label) → i < length ids → x ≡ get_or ids i d → IsGrown above pieces whole F tree i ids → given above pieces (F x) ≡ Some below → label_of below ≡ x
+-- one more child
+pub grown_more : (above : List Label) (pieces : Pieces) (whole : Run Node) (F : Label → Run Node) (tree after below : Node) (i : ℕ) (ids : List Label) (x d : Label) → i < length ids → x ≡ get_or ids i d → IsGrown above pieces whole F tree i ids → value_given above pieces (F x) ≡ Some below → label_of below ≡ x
     → children_of after ≡ children_of tree ++ below ∷ [] → label_of after ≡ label_of tree → local_of after ≡ local_of tree → IsGrown above pieces whole F after (i + 1) ids
 grown_more above pieces whole F tree after below i ids x d h e g b l c m n = record {
   tells = g.tells ∙ ap (option_map (with_more tree)) (each_cut above pieces F ids i x d h e)
-      ∙ ap (λ (o : Option Node). option_map (with_more tree) (pair_value (λ y ys. y ∷ ys) o (given above pieces (each F (drop (i + 1) ids))))) b
-      ∙ more_is tree after below (given above pieces (each F (drop (i + 1) ids))) c m n;
+      ∙ ap (λ (o : Option Node). option_map (with_more tree) (pair_value (λ y ys. y ∷ ys) o (value_given above pieces (each F (drop (i + 1) ids))))) b
+      ∙ more_is tree after below (value_given above pieces (each F (drop (i + 1) ids))) c m n;
   labels = ap labels_of c ∙ labels_more (children_of tree) below ∙ ap (λ (ls : List Label). ls ++ label_of below ∷ []) g.labels ∙ ap (λ (y : Label). take i ids ++ y ∷ []) (l ∙ e) ∙ sym (rw add-one (take-suc ids i d h));
   rising = g.rising;
 }
 
-pub grown_stops : (above : List Label) (pieces : Pieces) (whole : Run Node) (F : Label → Run Node) (tree : Node) (i : ℕ) (ids : List Label) (x d : Label) → i < length ids → x ≡ get_or ids i d → IsGrown above pieces whole F tree i ids → given above pieces (F x) ≡ None → given above pieces whole ≡ None
+-- where a child is not told, the whole tree is not
+pub grown_stops : (above : List Label) (pieces : Pieces) (whole : Run Node) (F : Label → Run Node) (tree : Node) (i : ℕ) (ids : List Label) (x d : Label) → i < length ids → x ≡ get_or ids i d → IsGrown above pieces whole F tree i ids → value_given above pieces (F x) ≡ None → value_given above pieces whole ≡ None
 grown_stops above pieces whole F tree i ids x d h e g b =
     g.tells ∙ ap (option_map (with_more tree)) (each_cut above pieces F ids i x d h e)
-    ∙ ap (λ (o : Option Node). option_map (with_more tree) (pair_value (λ y ys. y ∷ ys) o (given above pieces (each F (drop (i + 1) ids))))) b
+    ∙ ap (λ (o : Option Node). option_map (with_more tree) (pair_value (λ y ys. y ∷ ys) o (value_given above pieces (each F (drop (i + 1) ids))))) b
 
+-- the label of the next child is greater than those before
 pub grown_before : (above : List Label) (pieces : Pieces) (whole : Run Node) (F : Label → Run Node) (tree below : Node) (i : ℕ) (ids : List Label) (x d : Label) → i < length ids → x ≡ get_or ids i d → IsGrown above pieces whole F tree i ids → label_of below ≡ x
     → AreBefore (labels_of (children_of tree)) (label_of below)
 grown_before above pieces whole F tree below i ids x d h e g l =
@@ -247,29 +260,34 @@ grown_before above pieces whole F tree below i ids x d h e g l =
 tree_is : (t : Node) → with_more t [] ≡ t
 tree_is (node l local ns) = ap (λ (ms : List Node). node l local (nodes_of ms)) (append-nil (list_of ns)) ∙ ap (λ (ms : Nodes). node l local ms) (nodes_of-list_of ns)
 
-pub grown_done : (above : List Label) (pieces : Pieces) (whole : Run Node) (F : Label → Run Node) (tree : Node) (i : ℕ) (ids : List Label) → length ids ≤ i → IsGrown above pieces whole F tree i ids → Some tree ≡ given above pieces whole
+-- after the last child the tree is whole
+pub grown_done : (above : List Label) (pieces : Pieces) (whole : Run Node) (F : Label → Run Node) (tree : Node) (i : ℕ) (ids : List Label) → length ids ≤ i → IsGrown above pieces whole F tree i ids → Some tree ≡ value_given above pieces whole
 grown_done above pieces whole F tree i ids h g =
-    sym (g.tells ∙ ap (λ (ls : List Label). option_map (with_more tree) (given above pieces (each F ls))) (drop_all i ids h) ∙ ap (option_map (with_more tree)) (given_give above pieces []) ∙ ap Some (tree_is tree))
+    sym (g.tells ∙ ap (λ (ls : List Label). option_map (with_more tree) (value_given above pieces (each F ls))) (drop_all i ids h) ∙ ap (option_map (with_more tree)) (given_give above pieces []) ∙ ap Some (tree_is tree))
 
 -- ---- items
 
 abbrev node_item : List Label → Node → Item
 node_item name n = record { at = name; is = elements.Node n }
 
-found_is : (above : List Label) (pieces : Pieces) (l : Label) (name : List Label) (o : Option Node) → o ≡ given above pieces (subtree (room name) l name) → given above pieces (found (node_spot name l)) ≡ option_map (λ n. node_item name n ∷ []) o
+found_is : (above : List Label) (pieces : Pieces) (l : Label) (name : List Label) (o : Option Node) → o ≡ value_given above pieces (subtree (room name) l name) → value_given above pieces (found (node_spot name l)) ≡ option_map (λ n. node_item name n ∷ []) o
 found_is above pieces l name o h = given_next above pieces (subtree (room name) l name) (λ n. node_item name n ∷ []) ∙ ap (option_map (λ n. node_item name n ∷ [])) (sym h)
 
-pub no_item : (above : List Label) (pieces : Pieces) (l : Label) (name : List Label) (items new : List Item) → None ≡ given above pieces (subtree (room name) l name) → items_if false new ≡ found_after items (given above pieces (found (node_spot name l)))
+-- no item where the tree is not told
+pub no_item : (above : List Label) (pieces : Pieces) (l : Label) (name : List Label) (items new : List Item) → None ≡ value_given above pieces (subtree (room name) l name) → items_if false new ≡ found_after items (value_given above pieces (found (node_spot name l)))
 no_item above pieces l name items new h = ap (found_after items) (sym (found_is above pieces l name None h))
 
-pub one_item : (above : List Label) (pieces : Pieces) (l : Label) (name : List Label) (items new : List Item) (n : Node) → Some n ≡ given above pieces (subtree (room name) l name) → new ≡ items ++ record { at = name; is = elements.Node n } ∷ []
-    → items_if true new ≡ found_after items (given above pieces (found (node_spot name l)))
+-- the item of a tree, behind those found before
+pub one_item : (above : List Label) (pieces : Pieces) (l : Label) (name : List Label) (items new : List Item) (n : Node) → Some n ≡ value_given above pieces (subtree (room name) l name) → new ≡ items ++ record { at = name; is = elements.Node n } ∷ []
+    → items_if true new ≡ found_after items (value_given above pieces (found (node_spot name l)))
 one_item above pieces l name items new n h e = ap Some e ∙ ap (found_after items) (sym (found_is above pieces l name (Some n) h))
 
-pub none_found : (above : List Label) (pieces : Pieces) (items : List Item) (r : Run (List Item)) → given above pieces r ≡ Some [] → items_if true items ≡ found_after items (given above pieces r)
+-- a program that gives nothing adds nothing
+pub none_found : (above : List Label) (pieces : Pieces) (items : List Item) (r : Run (List Item)) → value_given above pieces r ≡ Some [] → items_if true items ≡ found_after items (value_given above pieces r)
 none_found above pieces items r h = ap Some (sym (append-nil items)) ∙ ap (found_after items) (sym h)
 
-pub not_told : (above : List Label) (pieces : Pieces) (items new : List Item) (r : Run (List Item)) → given above pieces r ≡ None → items_if false new ≡ found_after items (given above pieces r)
+-- a program that is undecided tells nothing
+pub not_told : (above : List Label) (pieces : Pieces) (items new : List Item) (r : Run (List Item)) → value_given above pieces r ≡ None → items_if false new ≡ found_after items (value_given above pieces r)
 not_told above pieces items new r h = ap (found_after items) (sym h)
 
 told_both : (items new : List Item) (a b : Option (List Item)) → items_if true new ≡ found_after items a → found_after items (pair_value (λ xs ys. xs ++ ys) a b) ≡ found_after new b
@@ -283,63 +301,73 @@ told_neither : (items new : List Item) (a b : Option (List Item)) → items_if f
 told_neither items new None b h = refl
 told_neither items new (Some x) b h = absurd (cc)
 
-gather_cut : (above : List Label) (pieces : Pieces) (F : Label → Run (List Item)) (ids : List Label) (i : ℕ) (x d : Label) → i < length ids → x ≡ get_or ids i d → given above pieces (gather F (drop i ids)) ≡ pair_value (λ xs ys. xs ++ ys) (given above pieces (F x)) (given above pieces (gather F (drop (i + 1) ids)))
-gather_cut above pieces F ids i x d h e = ap (λ (ls : List Label). given above pieces (gather F ls)) (cut_at ids i x d h e) ∙ given_both above pieces (λ xs ys. xs ++ ys) (F x) (gather F (drop (i + 1) ids))
+gather_cut : (above : List Label) (pieces : Pieces) (F : Label → Run (List Item)) (ids : List Label) (i : ℕ) (x d : Label) → i < length ids → x ≡ get_or ids i d → value_given above pieces (gather F (drop i ids)) ≡ pair_value (λ xs ys. xs ++ ys) (value_given above pieces (F x)) (value_given above pieces (gather F (drop (i + 1) ids)))
+gather_cut above pieces F ids i x d h e = ap (λ (ls : List Label). value_given above pieces (gather F ls)) (cut_at ids i x d h e) ∙ given_both above pieces (λ xs ys. xs ++ ys) (F x) (gather F (drop (i + 1) ids))
 
-pub find_more : (above : List Label) (pieces : Pieces) (F : Label → Run (List Item)) (ids : List Label) (i : ℕ) (x d : Label) (items new : List Item) (all : Option (List Item)) → i < length ids → x ≡ get_or ids i d → items_if true new ≡ found_after items (given above pieces (F x))
-    → found_after items (given above pieces (gather F (drop i ids))) ≡ all → found_after new (given above pieces (gather F (drop (i + 1) ids))) ≡ all
+-- one child more
+pub find_more : (above : List Label) (pieces : Pieces) (F : Label → Run (List Item)) (ids : List Label) (i : ℕ) (x d : Label) (items new : List Item) (all : Option (List Item)) → i < length ids → x ≡ get_or ids i d → items_if true new ≡ found_after items (value_given above pieces (F x))
+    → found_after items (value_given above pieces (gather F (drop i ids))) ≡ all → found_after new (value_given above pieces (gather F (drop (i + 1) ids))) ≡ all
 find_more above pieces F ids i x d items new all h e t o =
-    sym (told_both items new (given above pieces (F x)) (given above pieces (gather F (drop (i + 1) ids))) t) ∙ ap (found_after items) (sym (gather_cut above pieces F ids i x d h e)) ∙ o
+    sym (told_both items new (value_given above pieces (F x)) (value_given above pieces (gather F (drop (i + 1) ids))) t) ∙ ap (found_after items) (sym (gather_cut above pieces F ids i x d h e)) ∙ o
 
-pub find_stops : (above : List Label) (pieces : Pieces) (F : Label → Run (List Item)) (ids : List Label) (i : ℕ) (x d : Label) (items new : List Item) (all : Option (List Item)) → i < length ids → x ≡ get_or ids i d → items_if false new ≡ found_after items (given above pieces (F x))
-    → found_after items (given above pieces (gather F (drop i ids))) ≡ all → None ≡ all
+-- where a child is not told, the items are not
+pub find_stops : (above : List Label) (pieces : Pieces) (F : Label → Run (List Item)) (ids : List Label) (i : ℕ) (x d : Label) (items new : List Item) (all : Option (List Item)) → i < length ids → x ≡ get_or ids i d → items_if false new ≡ found_after items (value_given above pieces (F x))
+    → found_after items (value_given above pieces (gather F (drop i ids))) ≡ all → None ≡ all
 find_stops above pieces F ids i x d items new all h e t o =
-    sym (told_neither items new (given above pieces (F x)) (given above pieces (gather F (drop (i + 1) ids))) t) ∙ ap (found_after items) (sym (gather_cut above pieces F ids i x d h e)) ∙ o
+    sym (told_neither items new (value_given above pieces (F x)) (value_given above pieces (gather F (drop (i + 1) ids))) t) ∙ ap (found_after items) (sym (gather_cut above pieces F ids i x d h e)) ∙ o
 
-pub find_done : (above : List Label) (pieces : Pieces) (F : Label → Run (List Item)) (ids : List Label) (i : ℕ) (items : List Item) (all : Option (List Item)) → length ids ≤ i → found_after items (given above pieces (gather F (drop i ids))) ≡ all → Some items ≡ all
+-- after the last child all items are found
+pub find_done : (above : List Label) (pieces : Pieces) (F : Label → Run (List Item)) (ids : List Label) (i : ℕ) (items : List Item) (all : Option (List Item)) → length ids ≤ i → found_after items (value_given above pieces (gather F (drop i ids))) ≡ all → Some items ≡ all
 find_done above pieces F ids i items all h o =
-    ap Some (sym (append-nil items)) ∙ ap (found_after items) (sym (ap (λ (ls : List Label). given above pieces (gather F ls)) (drop_all i ids h) ∙ given_give above pieces [])) ∙ o
+    ap Some (sym (append-nil items)) ∙ ap (found_after items) (sym (ap (λ (ls : List Label). value_given above pieces (gather F ls)) (drop_all i ids h) ∙ given_give above pieces [])) ∙ o
 
-pub goes_unknown : (above : List Label) (pieces : Pieces) (i : ℕ) (q ms : List Main) (m : Main) (name : List Label) (l : Label) → q ≡ m ∷ ms → is_under name above ≡ true → piece_at pieces name ≡ None → given above pieces (thin_goes i q name l) ≡ None
+-- the steps are undecided at a node whose ids are not known
+pub goes_unknown : (above : List Label) (pieces : Pieces) (i : ℕ) (q ms : List Main) (m : Main) (name : List Label) (l : Label) → q ≡ m ∷ ms → is_under name above ≡ true → piece_at pieces name ≡ None → value_given above pieces (thin_goes i q name l) ≡ None
 goes_unknown above pieces i q ms m name l h u p = rw h (no_ids Unmet above pieces [] name (states.At i ∷ []) (gather (visited i m ms name)) u p).1
 
-pub goes_known : (above : List Label) (pieces : Pieces) (i : ℕ) (q ms : List Main) (m : Main) (name : List Label) (l : Label) (piece : Piece) → q ≡ m ∷ ms → is_under name above ≡ true → piece_at pieces name ≡ Some piece → given above pieces (thin_goes i q name l) ≡ given above pieces (gather (visited i m ms name) piece.ids)
+-- the steps go to each child of a node whose ids are known
+pub goes_known : (above : List Label) (pieces : Pieces) (i : ℕ) (q ms : List Main) (m : Main) (name : List Label) (l : Label) (piece : Piece) → q ≡ m ∷ ms → is_under name above ≡ true → piece_at pieces name ≡ Some piece → value_given above pieces (thin_goes i q name l) ≡ value_given above pieces (gather (visited i m ms name) piece.ids)
 goes_known above pieces i q ms m name l piece h u p = rw h (with_ids Unmet above pieces [] name (states.At i ∷ []) piece (gather (visited i m ms name)) u p).1
 
-pub tested_unknown : (above : List Label) (pieces : Pieces) (i : ℕ) (m : Main) (name : List Label) (l : Label) (r : Run (List Item)) → given above pieces (all_have_text (states.Test i ∷ []) m.predicates name l) ≡ None → given above pieces (thin_tested i m name l r) ≡ None
+-- a test that is undecided gives nothing
+pub tested_unknown : (above : List Label) (pieces : Pieces) (i : ℕ) (m : Main) (name : List Label) (l : Label) (r : Run (List Item)) → value_given above pieces (all_have_text (states.Test i ∷ []) m.predicates name l) ≡ None → value_given above pieces (thin_tested i m name l r) ≡ None
 tested_unknown above pieces i m name l r h = (next_undecided Unmet above pieces [] (all_have_text (states.Test i ∷ []) m.predicates name l) (λ b. where_so b r) h).1
 
-pub tested_false : (above : List Label) (pieces : Pieces) (i : ℕ) (m : Main) (name : List Label) (l : Label) (r : Run (List Item)) → given above pieces (all_have_text (states.Test i ∷ []) m.predicates name l) ≡ Some false → given above pieces (thin_tested i m name l r) ≡ Some []
+-- where a predicate is false, nothing is selected
+pub tested_false : (above : List Label) (pieces : Pieces) (i : ℕ) (m : Main) (name : List Label) (l : Label) (r : Run (List Item)) → value_given above pieces (all_have_text (states.Test i ∷ []) m.predicates name l) ≡ Some false → value_given above pieces (thin_tested i m name l r) ≡ Some []
 tested_false above pieces i m name l r h = (next_decided Unmet above pieces [] (all_have_text (states.Test i ∷ []) m.predicates name l) false (λ b. where_so b r) h).1 ∙ given_give above pieces []
 
-pub tested_true : (above : List Label) (pieces : Pieces) (i : ℕ) (m : Main) (name : List Label) (l : Label) (r : Run (List Item)) → given above pieces (all_have_text (states.Test i ∷ []) m.predicates name l) ≡ Some true → given above pieces (thin_tested i m name l r) ≡ given above pieces r
+-- where all predicates hold, the further steps give the items
+pub tested_true : (above : List Label) (pieces : Pieces) (i : ℕ) (m : Main) (name : List Label) (l : Label) (r : Run (List Item)) → value_given above pieces (all_have_text (states.Test i ∷ []) m.predicates name l) ≡ Some true → value_given above pieces (thin_tested i m name l r) ≡ value_given above pieces r
 tested_true above pieces i m name l r h = (next_decided Unmet above pieces [] (all_have_text (states.Test i ∷ []) m.predicates name l) true (λ b. where_so b r) h).1
 
-pub no_visit : (above : List Label) (pieces : Pieces) (i : ℕ) (m : Main) (ms : List Main) (name : List Label) (child : Label) → bytes_eq child.kind m.kind ≡ false → given above pieces (visited i m ms name child) ≡ Some []
+-- a child of another kind gives nothing
+pub no_visit : (above : List Label) (pieces : Pieces) (i : ℕ) (m : Main) (ms : List Main) (name : List Label) (child : Label) → bytes_eq child.kind m.kind ≡ false → value_given above pieces (visited i m ms name child) ≡ Some []
 no_visit above pieces i m ms name child h = rw h (given_give above pieces [])
 
 -- ---- the whole answer
 
-pub no_steps : (above : List Label) (pieces : Pieces) (top : Label) (q : List Main) (items : List Item) → q ≡ [] → items_if true items ≡ found_after items (given above pieces (thin_from top 0 q))
-no_steps above pieces top q items h = none_found above pieces items (thin_from top 0 q) (ap (λ (ms : List Main). given above pieces (thin_from top 0 ms)) h ∙ given_give above pieces [])
+-- no step selects nothing
+pub no_steps : (above : List Label) (pieces : Pieces) (top : Label) (q : List Main) (items : List Item) → q ≡ [] → items_if true items ≡ found_after items (value_given above pieces (thin_from top 0 q))
+no_steps above pieces top q items h = none_found above pieces items (thin_from top 0 q) (ap (λ (ms : List Main). value_given above pieces (thin_from top 0 ms)) h ∙ given_give above pieces [])
 
 told_is : (told : Bool) (items all : List Item) → items_if told items ≡ Some all → items ≡ all
 told_is true items all h = cc
 told_is false items all h = absurd (cc)
 
-given_evaluation : (pieces : Pieces) (query : Syntax) (top : Label) → is_thin query ≡ true → given [] pieces (thin_from top 0 (thin_of query)) ≡ (evaluation query (from_document top) (view_of pieces)).value
-unfolding given
+given_evaluation : (pieces : Pieces) (query : Syntax) (top : Label) → is_thin query ≡ true → value_given [] pieces (thin_from top 0 (thin_of query)) ≡ (evaluation query (from_document top) (view_of pieces)).value
+unfolding value_given
 given_evaluation pieces query top t = ap (λ (o : Out (List Item)). o.value) (sym ((thin_program_is query top t).runs (seen_from [] (view_of pieces))))
 
 -- what was found is what the query selects in each document that agrees
 pub determined_items : (above : List Label) (pieces : Pieces) (query steps : Syntax) (top : Label) (items old : List Item) (told : Bool) (document : Node) → is_thin query ≡ true → missing_of query (from_document top) pieces ≡ [] → above ≡ [] → old ≡ [] → steps ≡ query
-    → (AreRising pieces → items_if told items ≡ found_after old (given above pieces (thin_from top 0 (thin_of steps)))) → IsDocument document → label_of document ≡ top → Agrees document pieces → items ≡ items_at document (selected document query)
+    → (AreRising pieces → items_if told items ≡ found_after old (value_given above pieces (thin_from top 0 (thin_of steps)))) → IsDocument document → label_of document ≡ top → Agrees document pieces → items ≡ items_at document (selected document query)
 determined_items above pieces query steps top items old told document t none a o s found is l agrees =
     let missing : missing_of query (from_document (label_of document)) pieces ≡ [] = ap (λ (m : Label). missing_of query (from_document m) pieces) l ∙ none in
     let value : (evaluation query (from_document top) (view_of pieces)).value ≡ Some (items_at document (selected document query)) =
     ap (λ (m : Label). (evaluation query (from_document m) (view_of pieces)).value) (sym l) ∙ determines query pieces document t is agrees missing in
     told_is told items (items_at document (selected document query)) (found (agrees_rising document pieces is.0 agrees)
-    ∙ ap (λ (xs : List Item). found_after xs (given above pieces (thin_from top 0 (thin_of steps)))) o
-    ∙ ap (λ (ls : List Label). found_after [] (given ls pieces (thin_from top 0 (thin_of steps)))) a
-    ∙ ap (λ (q : Syntax). found_after [] (given [] pieces (thin_from top 0 (thin_of q)))) s
+    ∙ ap (λ (xs : List Item). found_after xs (value_given above pieces (thin_from top 0 (thin_of steps)))) o
+    ∙ ap (λ (ls : List Label). found_after [] (value_given ls pieces (thin_from top 0 (thin_of steps)))) a
+    ∙ ap (λ (q : Syntax). found_after [] (value_given [] pieces (thin_from top 0 (thin_of q)))) s
     ∙ ap (found_after []) (given_evaluation pieces query top t ∙ value))

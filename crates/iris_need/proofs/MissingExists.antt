@@ -17,13 +17,14 @@ use Rattle.iris_base.specs.Attribute.{is_id}
 use Rattle.iris_need.specs.Program.{each, gather, where_so, and_so, subtree}
 use Rattle.iris_need.specs.Run.{Run, give, see_ids, see_full, both, next, run, after, all_of, eval, ids_in, local_in}
 use Rattle.iris_need.proofs.Documents.{Stands, AllStand, children_stand, top_stands, room_is, ids_are}
-use Rattle.iris_need.proofs.Unmet.{real_work}
-use Rattle.iris_need.proofs.Runs.{evals}
+use Rattle.iris_need.proofs.UndecidedIsRealWork.{real_work}
+use Rattle.iris_need.proofs.Run.{evals}
 use Rattle.iris_need.specs.ThinProgram.{has_text, all_have_text, thin_tested, thin_goes, thin_from}
-use Rattle.iris_need.proofs.Thin.{thin_program_is}
+use Rattle.iris_need.proofs.ThinProgram.{thin_program_is}
 
 -- ---- programs that look at nodes alone
 
+-- a node of the document has that name
 abbrev pub IsNode : Node → List Label → Type 0
 IsNode document name = IsSome (node_at document name)
 

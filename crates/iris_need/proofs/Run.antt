@@ -10,15 +10,18 @@ use Rattle.iris_need.specs.Run.{Known, View, Run, give, see_ids, see_full, both,
 
 -- ---- elements of a list
 
+-- the first element is there
 pub contains_first : {X : Type 0} (x : X) (xs : List X) → Contains (x ∷ xs) x
 contains_first x xs = Contains-append_left (x ∷ []) xs x (Contains-push [] x)
 
+-- an element of the rest is there
 pub contains_later : {X : Type 0} (y : X) (xs : List X) (x : X) → Contains xs x → Contains (y ∷ xs) x
 contains_later y xs x h = Contains-append_right (y ∷ []) xs x h
 
 contains_nothing : {X Y : Type 0} (x : X) → Contains [] x → Y
 contains_nothing x h = absurd (omega (arith, h.1))
 
+-- an element is the first or one of the rest
 pub first_or_later : {X : Type 0} (y : X) (xs : List X) (x : X) → Contains (y ∷ xs) x → (y ≡ x) ⊎ Contains xs x
 first_or_later y xs x h = elim (Contains-append_cases (y ∷ []) xs x h) [
   | inl one ↦ elim (Contains-push_cases [] y x one) [ inl none ↦ contains_nothing x none | inr same ↦ inl same ]
@@ -107,6 +110,7 @@ grow_next o p (Some a) e f g h r =
       same = λ b d. ap (λ z. record { log = o.log ++ z.log; value = z.value }) ((r a).same b d);
     }
 
+-- over a view that knows more a program looks at more
 pub grows : (w v : View) → Below w v → {A : Type 0} → (t : Run A) → Grow (run w t) (run v t)
 grows w v b (give a) = grow_itself _
 grows w v b (see_ids name states k) = grow_ids _ (w name) (v name) (b name) (λ ids. run w (k ids)) (λ ids. run v (k ids)) (λ ids. grows w v b (k ids))
@@ -129,9 +133,11 @@ evals d (next r k) = ap (λ (o : Out _). o.value) (after_value (run (all_of d) r
 
 -- ---- where each look is met there is a value
 
+-- the view meets all looks
 abbrev pub AllMet : View → List Need → Type 0
 AllMet w looks = (look : Need) → Contains looks look → meets w look ≡ true
 
+-- there is a value
 abbrev pub HasValue : {A : Type 0} → Option A → Type 0
 HasValue {A} x = (a : A) × (x ≡ Some a)
 
@@ -164,6 +170,7 @@ decide_next w o f m v r =
     let n : AllMet w (o.log ++ (f v.0).log) = subst (λ (z : Out _). AllMet w z.log) e m in
     subst (λ (z : Out _). HasValue z.value) (sym e) (r v.0 (λ l i. n l (Contains-append_right o.log (f v.0).log l i)))
 
+-- a program all of whose looks are met is decided
 pub decides : (w : View) {A : Type 0} (t : Run A) → AllMet w (run w t).log → HasValue (run w t).value
 decides w (give a) m = (a, refl)
 decides w (see_ids name states k) m = decide_ids w (w name) _ (λ ids. run w (k ids)) (m _ (looked_ids _ (ids_known (w name)) (λ ids. run w (k ids)))) (λ ids. decides w (k ids)) m

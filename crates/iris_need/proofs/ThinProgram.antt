@@ -23,7 +23,7 @@ use Rattle.iris_need.specs.declared.need.State.TheVariants as states
 use Rattle.iris_need.specs.Needs.{from_document}
 use Rattle.iris_base.specs.Attribute.{is_id}
 use Rattle.iris_need.specs.Program.{gather, join, where_so, and_so, Spot, node_spot, document_spot, room, Marks, from_node, own_attribute, holds, all_hold, some_end, found, tested_at, tested, goes, go_at, seek_at, test_at, enter, program}
-use Rattle.iris_need.specs.ThinProgram.{has_text, all_have_text, thin_tested, thin_step, thin_goes, thin_from, thin_seeks, thin_goes_on, thin_tests, thin_enter}
+use Rattle.iris_need.specs.ThinProgram.{has_text, all_have_text, thin_tested, thin_step_program, thin_goes, thin_from, thin_seeks, thin_goes_on, thin_tests, thin_enter}
 use Rattle.iris_need.specs.Run.{Run, give, see_ids, both, next, Out, View, Seen, ids_known, full_known, after, after_ids, after_full, pair_value, run, eval}
 
 -- ---- programs that are the same to whoever runs them
@@ -33,6 +33,7 @@ pub record Same {A : Type 0} (r s : Run A) : Type 0 where
   pub runs : (w : View) → run w r ≡ run w s
   pub answers : (document : Node) → eval document r ≡ eval document s
 
+-- a program is the same as itself
 pub same : {A : Type 0} (r : Run A) → Same r r
 same r = record { runs = λ w. refl; answers = λ document. refl }
 
@@ -44,18 +45,21 @@ after_ids_same : {A : Type 0} (look : Need) (o : Option (List Label)) (f g : Lis
 after_ids_same look None f g h = refl
 after_ids_same {A = A} look (Some ids) f g h = ap (λ (o : Out A). record { log = look ∷ o.log; value = o.value }) (h ids)
 
+-- two programs one after the other
 pub same_next : {A B : Type 0} (r s : Run A) (f g : A → Run B) → Same r s → ((a : A) → Same (f a) (g a)) → Same (next r f) (next s g)
 same_next {A = A} {B = B} r s f g h k = record {
   runs = λ w. ap (λ (o : Out A). after o.log o.value (λ a. run w (f a))) (h.runs w) ∙ after_same (run w s).log (run w s).value (λ a. run w (f a)) (λ a. run w (g a)) (λ a. (k a).runs w);
   answers = λ document. ap (λ (a : A). eval document (f a)) (h.answers document) ∙ (k (eval document s)).answers document;
 }
 
+-- programs after the same look
 pub same_ids : {A : Type 0} (name : List Label) (marks : List State) (f g : List Label → Run A) → ((ids : List Label) → Same (f ids) (g ids)) → Same (see_ids name marks f) (see_ids name marks g)
 same_ids name marks f g h = record {
   runs = λ w. after_ids_same _ (ids_known (w name)) (λ ids. run w (f ids)) (λ ids. run w (g ids)) (λ ids. (h ids).runs w);
   answers = λ document. (h _).answers document;
 }
 
+-- two programs side by side
 pub same_join : {A : Type 0} (r s t u : Run (List A)) → Same r s → Same t u → Same (join r t) (join s u)
 same_join {A = A} r s t u h k = record {
   runs = λ w. ap (λ (o : Out (List A)). record { log = o.log ++ (run w t).log; value = pair_value (λ xs ys. xs ++ ys) o.value (run w t).value }) (h.runs w)
@@ -63,18 +67,22 @@ same_join {A = A} r s t u h k = record {
   answers = λ document. ap (λ (xs : List A). xs ++ eval document t) (h.answers document) ∙ ap (λ (xs : List A). eval document s ++ xs) (k.answers document);
 }
 
+-- a program for each element
 pub same_gather : {X A : Type 0} (f g : X → Run (List A)) → ((x : X) → Same (f x) (g x)) → (xs : List X) → Same (gather f xs) (gather g xs)
 same_gather f g h [] = same (give [])
 same_gather f g h (x ∷ xs) = same_join (f x) (g x) (gather f xs) (gather g xs) (h x) (same_gather f g h xs)
 
+-- a program under a condition
 pub same_so : {A : Type 0} (b : Bool) (r s : Run (List A)) → Same r s → Same (where_so b r) (where_so b s)
 same_so true r s h = h
 same_so false r s h = same (give [])
 
+-- a test after a condition
 pub same_and : (b : Bool) (r s : Run Bool) → Same r s → Same (and_so b r) (and_so b s)
 same_and true r s h = h
 same_and false r s h = same (give false)
 
+-- what is the same as the same
 pub same_twice : {A : Type 0} (r s t : Run A) → Same r s → Same s t → Same r t
 same_twice r s t h k = record { runs = λ w. h.runs w ∙ k.runs w; answers = λ document. h.answers document ∙ k.answers document }
 
@@ -133,6 +141,7 @@ holds_is top marks e name l =
 abbrev pub equalities : List Equals → Conditions
 equalities es = conditions_of (map condition_of (map equality es))
 
+-- the predicates of a thin step are its equalities
 pub all_hold_is : (top : Label) (marks : Marks) (es : List Equals) (name : List Label) (l : Label) → Same (all_hold top marks (equalities es) (node_spot name l)) (all_have_text (marks name) es name l)
 all_hold_is top marks [] name l = same (give true)
 all_hold_is top marks (e ∷ es) name l =
@@ -156,6 +165,7 @@ from_node_is (suc levels) kind own lower name k = refl
 own_mark : (state : State) (name : List Label) (l : Label) → tested_at state (node_spot name l) name ≡ state ∷ []
 own_mark state name l = ap (λ b. cond b (state ∷ []) []) (names_equiv.refl name)
 
+-- the test of a thin step is that of its equalities
 pub tested_is : {A : Type 0} (top : Label) (i : ℕ) (m : Main) (name : List Label) (l : Label) (r s : Run (List A)) → Same r s → Same (tested top i (main_of (whole_step m)) (node_spot name l) r) (thin_tested i m name l s)
 tested_is {A = A} top i m name l r s h =
     let tests = all_hold top (tested_at (states.Test i) (node_spot name l)) (equalities m.predicates) (node_spot name l) in
@@ -165,9 +175,9 @@ tested_is {A = A} top i m name l r s h =
 
 -- a step from a node, with what goes on at the nodes that pass
 pub step_is : {A : Type 0} (top : Label) (own lower : Marks) (i : ℕ) (m : Main) (name : List Label) (k : Spot → Run (List A)) (further : List Label → Label → Run (List A)) → ((at : List Label) (l : Label) → Same (k (node_spot at l)) (further at l))
-    → Same (from_node (room name) Slash (Kind m.kind) own lower name (λ at. tested top i (main_of (whole_step m)) at (k at))) (thin_step (own name) i m further name)
+    → Same (from_node (room name) Slash (Kind m.kind) own lower name (λ at. tested top i (main_of (whole_step m)) at (k at))) (thin_step_program (own name) i m further name)
 step_is {A = A} top own lower i m name k further h =
-    subst (λ (r : Run (List A)). Same r (thin_step (own name) i m further name)) (sym (from_node_is (room name) m.kind own lower name (λ at. tested top i (main_of (whole_step m)) at (k at))))
+    subst (λ (r : Run (List A)). Same r (thin_step_program (own name) i m further name)) (sym (from_node_is (room name) m.kind own lower name (λ at. tested top i (main_of (whole_step m)) at (k at))))
     (same_ids name (own name) _ _ (same_gather _ _ (λ child.
     let at = name ++ child ∷ [] in
     same_so (bytes_eq child.kind m.kind) (tested top i (main_of (whole_step m)) (node_spot at child) (k (node_spot at child))) (thin_tested i m at child (further at child))
@@ -181,6 +191,7 @@ goes_is top i (m ∷ ms) name l =
 
 -- ---- the whole program
 
+-- the steps from the document on
 pub from_top : (top : Label) (i : ℕ) (ms : List Main) → Same (go_at top i (thin_steps ms) document_spot) (thin_from top i ms)
 from_top top i [] = same (give [])
 from_top top i (m ∷ ms) =

@@ -24,7 +24,7 @@ use Rattle.iris_need.specs.Pieces.{Pieces, piece_at, known_of, view_of, IsLocalO
 use Rattle.iris_need.specs.Program.{program}
 use Rattle.iris_need.specs.Needs.{is_under, seen_from, evaluation, looks, is_missing, missing_of, merged, without_states, support_of, full_part, full_names, from_document}
 use Rattle.iris_need.specs.Laws.{HasLook, IsOpenAtStart}
-use Rattle.iris_need.proofs.Runs.{contains_first, contains_later, first_or_later, grows, determined, AllMet}
+use Rattle.iris_need.proofs.Run.{contains_first, contains_later, first_or_later, grows, determined, AllMet}
 use Rattle.iris_need.proofs.Merged.{merged_have, merged_empty}
 
 -- ---- a view of pieces is part of all of each document that agrees
@@ -41,6 +41,7 @@ piece_below document name (Some piece) h =
     let local : local_of is.0 ≡ local_in document name = sym (ap (λ o. option_map_or local_of o no_local) is.1) in
     (is.2 ∙ ids, local_below piece.full is.0 (local_in document name) is.3 local)
 
+-- the pieces of a view know less than the whole document
 pub pieces_below : (document : Node) (pieces : Pieces) → Agrees document pieces → Below (view_of pieces) (all_of document)
 pieces_below document pieces agrees name = piece_below document name (piece_at pieces name) (λ piece found.
     All-contains (λ entry. IsPieceAt document entry.0 entry.1) pieces (name, piece) agrees
@@ -50,11 +51,13 @@ below_if : (b : Bool) (p q : Option Known) → KnownBelow p q → KnownBelow (co
 below_if true p q h = h
 below_if false p q h = tt
 
+-- what is seen under a name of a view that knows more
 pub seen_below : (above : List Label) (w v : View) → Below w v → Below (seen_from above w) (seen_from above v)
 seen_below above w v below name = below_if (is_under name above) (w name) (v name) (below name)
 
 -- ---- filters
 
+-- an element of a filtered list is there and passes
 pub contains_filtered : {X : Type 0} (p : X → Bool) (xs : List X) (x : X) → Contains (filter p xs) x → Contains xs x × (p x ≡ true)
 contains_filtered p xs x h =
     (All-contains (Contains xs) (filter p xs) x (All-filter p (Contains xs) xs (All-contains_itself xs)) h, All-contains (λ y. p y ≡ true) (filter p xs) x (filter_passes p xs) h)
@@ -102,6 +105,7 @@ determined_from query view document agrees none = (same_run query (label_of docu
 
 -- ---- what the support has in full
 
+-- where nothing is missing, the evaluation rests on the full names
 pub support_full : (query : Syntax) (view : Pieces) (document : Node) → Agrees document view → missing_of query (from_document (label_of document)) view ≡ []
     → full_part (support_of query (from_document (label_of document)) view) ≡ full_names query document
 support_full query view document agrees none =
@@ -122,6 +126,7 @@ missing_look query start view need h =
     let both = and_true (is_under stands.0.name start.name) (not (meets (seen_from start.name (view_of view)) stands.0)) kept.1 in
     (stands.0, kept.0, stands.2, stands.3, both.0, both.1)
 
+-- what is missing is looked at over each document that agrees
 pub real_work : (query : Syntax) (start : Start) (view : Pieces) (document : Node) → Agrees document view → (need : Need) → Contains (missing_of query start view) need
     → HasLook (looks query start (all_of document)) need.name need.level
 real_work query start view document agrees need h =
@@ -131,6 +136,7 @@ real_work query start view document agrees need h =
 
 -- ---- where it lies
 
+-- what is missing is at or under the start's name
 pub missing_under : (query : Syntax) (start : Start) (view : Pieces) (need : Need) → Contains (missing_of query start view) need → is_under need.name start.name ≡ true
 missing_under query start view need h =
     let s = missing_look query start view need h in
@@ -146,6 +152,7 @@ unmet_at above w look name l e f under h =
     let here : not (meets_known look.level (w look.name)) ≡ true = subst (λ b. not (meets_known look.level (cond b (w look.name) None)) ≡ true) under h in
     not_so (meets_known l (w name)) (subst (λ n. not (meets_known l (w n)) ≡ true) e (subst (λ m. not (meets_known m (w look.name)) ≡ true) f here))
 
+-- what is missing is not met
 pub missing_unmet : (query : Syntax) (start : Start) (view : Pieces) (need : Need) → Contains (missing_of query start view) need → meets (view_of view) need ≡ false
 missing_unmet query start view need h =
     let s = missing_look query start view need h in
@@ -158,6 +165,7 @@ open_at level.Ids m None h = inr refl
 open_at level.Full level.Ids k h = inl (refl, refl)
 open_at level.Full level.Full k h = inr h
 
+-- what is missing at the start's name is what its own look leaves open
 pub missing_here : (query : Syntax) (start : Start) (view : Pieces) (need : Need) → Contains (missing_of query start view) need → need.name ≡ start.name → IsOpenAtStart start view need
 missing_here query start view need h e =
     open_at need.level start.level (view_of view start.name) (subst (λ name. meets_known need.level (view_of view name) ≡ false) e (missing_unmet query start view need h))
