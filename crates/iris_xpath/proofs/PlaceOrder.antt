@@ -197,5 +197,6 @@ steps_rise document context (s ∷ ss) h rise =
     steps_rise document (step_to document context s) ss h
     (IsStrictlySortedBy-filter place_cmp (λ place. list_any (λ above. is_reached s.separator above place) context && fits document s place) (places document) (places_rise document h))
 
+-- what a query selects stands in document order
 pub selected_rise : (document : Node) (q : Syntax) → IsOrdered document → IsStrictlySortedBy place_cmp (selected document q)
 selected_rise document q h = steps_rise document ([] ∷ []) (map main_of q) h (rises_first [] tt nothing_rises)

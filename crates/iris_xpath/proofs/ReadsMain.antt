@@ -84,6 +84,7 @@ follows_step kinds b w (s ∷ ss) h e = rw (h.2, h.3.spelled) refl
 pub step_here : (rest : List ℕ) → (length rest == 0) ≡ false → (w : List ℕ) → IsEnd w → rest ≢ w
 step_here rest h w s e = let k : length rest ≡ 0 = rw (e, s) refl in grind (arith, nat_tests)
 
+-- no step begins where no text is left
 pub no_step : (kinds : List (List ℕ)) (rest : List ℕ) → rest ≡ [] → (f w : List ℕ) (s : Step Expression) → ReadsMain kinds f s → rest ≢ f ++ w
 no_step kinds rest h f w s r e = let k : [] ≡ 47 ∷ r.kind ++ r.rest ++ w = sym h ∙ e ∙ ap (λ (v : List ℕ). v ++ w) r.spelled in absurd (cc)
 
@@ -107,6 +108,7 @@ predicates_thin text (p ∷ ps) h =
 step_thin : (kinds : List (List ℕ)) (text : List ℕ) (s : Step Expression) → ReadsMain kinds text s → is_thin_step s ≡ true
 step_thin kinds text s h = rw (h.separator, h.test) (predicates_thin h.rest s.predicates h.predicates)
 
+-- what is read is thin
 pub steps_thin : (kinds : List (List ℕ)) (text : List ℕ) (q : Syntax) → ReadsAll (ReadsMain kinds) text q → is_thin q ≡ true
 steps_thin kinds text [] h = refl
 steps_thin kinds text (s ∷ q) h = rw (step_thin kinds h.0 s h.3, steps_thin kinds h.1 q h.4) refl

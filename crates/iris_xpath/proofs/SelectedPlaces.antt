@@ -16,17 +16,21 @@ use Rattle.iris_xpath.specs.ThinMeaning.{fits, step_to, steps_to, selected, test
 
 -- ---- Bool
 
+-- both are true
 pub and_true : (a b : Bool) → (a && b) ≡ true → (a ≡ true) × (b ≡ true)
 and_true true b h = (refl, h)
 and_true false b h = absurd (cc)
 
+-- two that are true
 pub and_both : (a b : Bool) → a ≡ true → b ≡ true → (a && b) ≡ true
 and_both a b h k = rw (h, k) refl
 
+-- true at the right changes nothing
 pub and_right : (a : Bool) → (a && true) ≡ a
 and_right true = refl
 and_right false = refl
 
+-- false at the right
 pub and_false : (a : Bool) → (a && false) ≡ false
 and_false true = refl
 and_false false = refl
@@ -60,15 +64,18 @@ leads test at [] place = test at place
 leads test at (s ∷ ss) [] = false
 leads test at (s ∷ ss) (e ∷ place) = fits (at (e ∷ [])) s && leads test (λ p. at (e ∷ p)) ss place
 
+-- no edge is left
 abbrev pub is_end : Place → Bool
 is_end [] = true
 is_end (e ∷ place) = false
 
+-- one edge is left
 abbrev pub is_edge : Place → Bool
 is_edge [] = false
 is_edge (e ∷ []) = true
 is_edge (e ∷ f ∷ place) = false
 
+-- whatever is left
 abbrev pub always : Place → Bool
 always place = true
 
@@ -273,6 +280,7 @@ any_above : (document : Node) (q : List Main) (place : Place) → list_any (λ a
 any_above document q place =
     any_same (λ above. is_above above place) (λ front. begins always front place) (λ x. above_begins x place) (context_of document q) ∙ context_begins always document q place
 
+-- tests that agree keep the same
 pub filter_same : {A : Type 0} (t u : A → Bool) → ((x : A) → t x ≡ u x) → (xs : List A) → filter t xs ≡ filter u xs
 filter_same t u h [] = refl
 filter_same t u h (x ∷ xs) = ap (λ b. cond b (x ∷ filter t xs) (filter t xs)) (h x) ∙ ap (λ ys. cond (u x) (x ∷ ys) ys) (filter_same t u h xs)

@@ -30,6 +30,7 @@ use Rattle.iris_xpath.proofs.SelectedPlaces.{and_true, filter_same}
 
 -- ---- the expression of an equality
 
+-- the expression of an equality says it
 pub equality_is : (e : Equals) → equality_of (equality e) ≡ Some e
 equality_is e = ap equality_in (out-roll-Expression _)
 
@@ -107,6 +108,7 @@ predicates_are (x ∷ xs) h =
 step_of : (a b : Separator) (t u : NameTest) (xs ys : List Expression) → a ≡ b → t ≡ u → xs ≡ ys → ◌≡◌ {A = Step Expression} (record { separator = a; test = t; predicates = xs }) (record { separator = b; test = u; predicates = ys })
 step_of a b t u xs ys ea et ex = rw (ea, et, ex) refl
 
+-- a thin step is the tree of what it says
 pub step_is : (s : Step Expression) → is_thin_step s ≡ true → s ≡ whole_step (thin_step s)
 step_is s h =
     let k = and_true (is_slash s.separator && is_some (kind_of s.test)) (list_all (λ x. is_some (equality_of x)) s.predicates) h in
@@ -130,16 +132,20 @@ all_equalities : (es : List Equals) → list_all (λ x. is_some (equality_of x))
 all_equalities [] = refl
 all_equalities (e ∷ es) = rw (equality_is e, all_equalities es) refl
 
+-- the tree of a step says that step
 pub whole_step_is : (m : Main) → thin_step (whole_step m) ≡ m
 whole_step_is m = ap (λ es. record { kind = m.kind; predicates = es }) (equalities_are m.predicates)
 
+-- the tree of a step is thin
 pub whole_step_thin : (m : Main) → is_thin_step (whole_step m) ≡ true
 whole_step_thin m = all_equalities m.predicates
 
+-- the trees of steps say these steps
 pub thin_of_whole : (ms : List Main) → thin_of (map whole_step ms) ≡ ms
 thin_of_whole [] = refl
 thin_of_whole (m ∷ ms) = rw (whole_step_is m, thin_of_whole ms) refl
 
+-- the trees of steps are thin
 pub whole_thin : (ms : List Main) → is_thin (map whole_step ms) ≡ true
 whole_thin [] = refl
 whole_thin (m ∷ ms) = rw (whole_step_thin m, whole_thin ms) refl
@@ -168,6 +174,7 @@ fits_at (Some whole) m = refl
 fits_at (Some (a_node n)) m = refl
 fits_at (Some (a_plain p)) m = refl
 
+-- a thin step fits where its tree does
 pub fits_whole : (document : Node) (m : Main) (place : Place) → tree.fits document (main_of (whole_step m)) place ≡ thin.fits (part_at_place document place) m
 fits_whole document m place =
     ap (λ b. tree.passes (part_at_place document place) (Kind m.kind) && b) (all_equal document m.predicates place) ∙ fits_at (part_at_place document place) m

@@ -77,6 +77,7 @@ finds_later : (n : Node) (ms : List Node) (ns : Nodes) → AllAfter (label_of n)
 finds_later n ms no_nodes after h = tt
 finds_later n ms (nodes k ks) after h = (found_again (label_of n) (label_of k) n (child_of (label_of k) ms) after.0 ∙ h.0, finds_later n ms ks after.1 h.1)
 
+-- the children of a node in order are found by their labels
 pub finds_all : (ns : Nodes) → AreOrdered ns → Finds (list_of ns) ns
 finds_all no_nodes ordered = tt
 finds_all (nodes n ns) ordered = (rw (labels_equiv.refl (label_of n)) refl, finds_later n (list_of ns) ns ordered.1 (finds_all ns ordered.2))
@@ -186,6 +187,7 @@ places_found document query s ss above new old ordered thin is top start h =
 
 -- ---- the names
 
+-- names below a child
 pub under_names : (above : List Label) (l : Label) (ms : List (List Label)) → map (λ m. (above ++ l ∷ []) ++ m) ms ≡ map (λ m. above ++ m) (map (λ m. l ∷ m) ms)
 under_names above l ms = map_same _ _ (λ (m : List Label). append_assoc above (l ∷ []) m) ms ∙ sym (map_map (λ m. above ++ m) (λ m. l ∷ m) ms)
 
