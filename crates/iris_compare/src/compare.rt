@@ -2,12 +2,11 @@
 
 use crate::parts::piece;
 use anyhow::{Context, ensure};
-use iris_base::{Label, Mem, Name};
 use iris_fragment::Level;
 use iris_json::write_items;
 use iris_need::{Need, Start, View, answer_of, missing, support};
 use iris_select::{answer, evaluate};
-use iris_tree::Tree;
+use iris_tree::{Label, Mem, Name, Tree};
 use iris_xpath::Query;
 use std::alloc::Global;
 

@@ -1,9 +1,8 @@
 //! Views that have parts of a document.
 
-use iris_base::{Label, Mem, Name, Sequence};
 use iris_fragment::{Full, Level, Piece};
 use iris_need::View;
-use iris_tree::Tree;
+use iris_tree::{Label, Mem, Name, Sequence, Tree};
 use std::alloc::Global;
 
 /// The piece of a node at that level. The name is the node's.
