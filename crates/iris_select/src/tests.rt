@@ -3,15 +3,15 @@
 use crate::evaluation::{evaluate, evaluate_items, select};
 use crate::items::{answer, items_at};
 use iris_json::{read_city, write_items};
-use iris_tree::{Name, name_text};
+use iris_tree::{Attrs, Id, Kind, Label, Local, Name, Plain, Sequence, Tag, Text, Tree, name_text};
 use iris_xpath::parse;
 use std::alloc::Global;
 use std::str;
 use std::test::Fail;
 
-// A block with a note and three spaces, of which the second is free.
+// A block with three spaces, of which the second is free.
 const CITY: &str =
-    r#"{"kinds":["block","space"],"agents":["a"],"place":[["block-1","a"]],"tree":{"kind":"block","id":"1","plain":[{"tag":"note","text":"x"}],"nodes":[{"kind":"space","id":"1","attrs":{"free":"no"}},{"kind":"space","id":"2","attrs":{"free":"yes"}},{"kind":"space","id":"3"}]}}"#;
+    r#"{"kinds":["block","space"],"agents":["a"],"place":[["block-1","a"]],"tree":{"kind":"block","id":"1","nodes":[{"kind":"space","id":"1","attrs":{"free":"no"}},{"kind":"space","id":"2","attrs":{"free":"yes"}},{"kind":"space","id":"3"}]}}"#;
 
 const SECOND: &str =
     r#"[{"at":"space-2.block-1","is":{"attrs":{"free":"yes"},"id":"2","kind":"space","nodes":[],"plain":[]}}]"#;
@@ -68,8 +68,17 @@ fn selects_and_looks(rt: HostRuntime) -> Result<(), Fail> {
 #[test]
 fn items_of_plain_elements(rt: HostRuntime) -> Result<(), Fail> {
     let alloc = rt.alloc();
-    let city = read_city(alloc, CITY.as_bytes())?;
-    let query = parse(alloc, "/block", city.kinds.as_slice())?;
+    let mut local = Local::new(alloc);
+    local.plain.push(Plain {
+        tag: Tag::new("note")?,
+        attrs: Attrs::new(alloc),
+        text: Text::new(alloc, "x")?,
+        kids: Sequence::new(alloc),
+    })?;
+    let kind = Kind::new("block")?;
+    let id = Id::new("1")?;
+    let tree = Tree::new(alloc, Label { kind, id }, local);
+    let query = parse(alloc, "/block", &[kind])?;
     for (position, wanted) in [
         (
             0,
@@ -77,11 +86,11 @@ fn items_of_plain_elements(rt: HostRuntime) -> Result<(), Fail> {
         ),
         (1, "[]"),
     ] {
-        let mut places = select(alloc, &city.tree, &query)?;
+        let mut places = select(alloc, &tree, &query)?;
         for place in &mut places {
             place.path.push(position)?;
         }
-        let bytes = write_items(alloc, &items_at(alloc, &city.tree, &places)?)?;
+        let bytes = write_items(alloc, &items_at(alloc, &tree, &places)?)?;
         assert_eq!(rt; str::from_utf8(&bytes)?, wanted);
     }
     Ok(())
