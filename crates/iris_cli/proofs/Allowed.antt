@@ -27,10 +27,11 @@ use Rattle.iris_cli.specs.declared.event.Event.{Event}
 use Rattle.iris_cli.specs.declared.event.Event.TheVariants as events
 use Rattle.iris_cli.specs.declared.event.Sent.{Sent}
 use Rattle.iris_cli.specs.declared.event.Sent.TheVariants as sent
-use Rattle.iris_cli.specs.declared.event.Update.{Update}
+use Rattle.iris_cli.specs.declared.event.NodeUpdate.{NodeUpdate}
 use Rattle.iris_cli.specs.declared.session.Posted.{Posted}
-use Rattle.iris_cli.specs.Run.{Held, World, items_of_query, version_of, newest_cite, made_by, after_update, after_delivery, after_all, is_posted, after, Starts}
-use Rattle.iris_cli.specs.Allowed.{version_by, document_of_cites, IsAllowed, DeliversAllowed, AllDeliverAllowed, BringsAllowed, AnswersAllowed}
+use Rattle.iris_cli.specs.Run.{SiteState, World, items_of_query, version_of, newest_cite, made_by, after_update, after_delivery, after_all, is_posted, after, Runs, Starts}
+use Rattle.iris_cli.specs.Played.{DoneSo}
+use Rattle.iris_cli.specs.Allowed.{version_by, document_of_cites, IsAllowed, DeliversAllowed, AllDeliverAllowed, BringsAllowed, AnswersAllowed, ScriptAllowed}
 use Rattle.iris_cli.proofs.Cities.{city_ordered}
 use Rattle.iris_cli.proofs.Locals.{IsThere, names_there, names_kept, locals_there}
 use Rattle.iris_cli.proofs.Sites.{made_next, no_past, past_more}
@@ -38,7 +39,7 @@ use Rattle.iris_cli.proofs.Sites.{made_next, no_past, past_more}
 -- ---- what holds along a run
 
 -- the start is in order, the history is sound, and no update came after the present moment
-pub record IsGood (h : Held) : Type 0 where
+pub record IsGood (h : SiteState) : Type 0 where
   pub ordered : IsOrdered h.history.start
   pub sound : IsSound h.history
   pub past : All (λ u. u.1.at ≤ h.now) (updates_in h.history.entries)
@@ -64,7 +65,7 @@ value_newest start us name old sound there = by (updates_of us name) refl
         ∙ ap (λ (l : Local). Some l) (sym last.2)
 
 -- of a node that is there, the cited version is its newest
-version_is : (h : Held) (name : List Label) → IsThere h.history.start name → version_of h name ≡ newest h.history name
+version_is : (h : SiteState) (name : List Label) → IsThere h.history.start name → version_of h name ≡ newest h.history name
 version_is h name there = by (node_at h.history.start name) there.1
   where
     by : (here : Option Node) → option_map local_of here ≡ Some there.0 → option_map_or (λ version. version) (option_map (λ _. newest h.history name) here) 0 ≡ newest h.history name
@@ -72,7 +73,7 @@ version_is h name there = by (node_at h.history.start name) there.1
     by (Some n) e = refl
 
 -- the newest cites tell the newest version, whichever names they are of
-tells_newest : (h : Held) (names : List (List Label)) (name : List Label) → IsThere h.history.start name → version_by h.history (map (newest_cite h) names) name ≡ newest h.history name
+tells_newest : (h : SiteState) (names : List (List Label)) (name : List Label) → IsThere h.history.start name → version_by h.history (map (newest_cite h) names) name ≡ newest h.history name
 tells_newest h [] name there = refl
 tells_newest h (n ∷ names) name there = by (pointwise label_eq n name) refl (tells_newest h names name there)
   where
@@ -82,7 +83,7 @@ tells_newest h (n ∷ names) name there = by (pointwise label_eq n name) refl (t
     by false other rest = rest
 
 -- the document of newest cites is today's
-document_is : (h : Held) (names : List (List Label)) → IsGood h → document_of_cites h.history (map (newest_cite h) names) ≡ today h.history
+document_is : (h : SiteState) (names : List (List Label)) → IsGood h → document_of_cites h.history (map (newest_cite h) names) ≡ today h.history
 document_is h names good = locals_there h.history.start _ _ good.ordered each
   where
     each : (name : List Label) (old : Local) → local_at h.history.start name ≡ Some old
@@ -103,7 +104,7 @@ past_of now (u ∷ us) name k past = by (pointwise label_eq name u.0) k (λ i. p
     by true (suc i) rest = rest i
     by false i rest = rest i
 
-newest_held : (h : Held) (name : List Label) → IsGood h → IsThere h.history.start name → book.Held h.history name (version_of h name) h.now
+newest_held : (h : SiteState) (name : List Label) → IsGood h → IsThere h.history.start name → book.Held h.history name (version_of h name) h.now
 newest_held h name good there = subst (λ version. book.Held h.history name version h.now) (sym (version_is h name there)) (record {
   there = subst (λ (o : Option Local). IsSome o) (sym (value_newest h.history.start (updates_in h.history.entries) name there.0 good.sound there.1)) refl;
   begun = λ before next. past_of h.now (updates_in h.history.entries) name before good.past;
@@ -112,12 +113,12 @@ newest_held h name good there = subst (λ version. book.Held h.history name vers
 
 -- ---- an answer
 
-names_cited : (h : Held) (names : List (List Label)) → map (λ (c : Cite). c.name) (map (newest_cite h) names) ≡ names
+names_cited : (h : SiteState) (names : List (List Label)) → map (λ (c : Cite). c.name) (map (newest_cite h) names) ≡ names
 names_cited h [] = refl
 names_cited h (name ∷ names) = ap (λ (rest : List (List Label)). name ∷ rest) (names_cited h names)
 
 -- an answer of today's items, with the newest cites of the nodes that were looked into
-newest_allowed : (h : Held) (query : Syntax) → IsGood h → IsAllowed h.history h.now query (items_of_query (today h.history) query) (map (newest_cite h) (full_names (today h.history) query)) true
+newest_allowed : (h : SiteState) (query : Syntax) → IsGood h → IsAllowed h.history h.now query (items_of_query (today h.history) query) (map (newest_cite h) (full_names (today h.history) query)) true
 newest_allowed h query good = record {
   held = of_cites (λ c. book.Held h.history c.name c.version c.stamp) (λ name there. newest_held h name good there);
   past = of_cites (λ c. c.stamp ≤ h.now) (λ name there. omega arith);
@@ -143,7 +144,7 @@ newest_allowed h query good = record {
 
 -- ---- what updates keep
 
-good_update : (h : Held) (request : ℕ) (u : Update) (made : Result Local Out) → made_by h request u ≡ made → IsGood h → IsGood (after_update h u made)
+good_update : (h : SiteState) (request : ℕ) (u : NodeUpdate) (made : Result Local Out) → made_by h request u ≡ made → IsGood h → IsGood (after_update h u made)
 good_update h request u (Err refusal) is good = good
 good_update h request u (Ok local) is good =
     let us = updates_in h.history.entries in
@@ -156,56 +157,56 @@ good_update h request u (Ok local) is good =
       past = past_more h.history h.history (with_entry h.history entry) h.now u.no u.name u.changes local good.past refl refl;
     }
 
-good_delivery : (h : Held) (request : ℕ) (s : Sent) → IsGood h → IsGood (after_delivery h request s)
+good_delivery : (h : SiteState) (request : ℕ) (s : Sent) → IsGood h → IsGood (after_delivery h request s)
 good_delivery h request (sent.Query query) good = good
 good_delivery h request (sent.Update update) good = good_update h request update (made_by h request update) refl good
 
-good_all : (h : Held) (posted : List Posted) → IsGood h → IsGood (after_all h posted)
+good_all : (h : SiteState) (posted : List Posted) → IsGood h → IsGood (after_all h posted)
 good_all h [] good = good
 good_all h (p ∷ ps) good = good_all (after_delivery h p.request p.sent) ps (good_delivery h p.request p.sent good)
 
 -- a later moment
-good_later : (h : Held) (at : ℕ) → h.now ≤ at → IsGood h → IsGood (record { history = h.history; now = at })
+good_later : (h : SiteState) (at : ℕ) → h.now ≤ at → IsGood h → IsGood (record { history = h.history; now = at })
 good_later h at later good = record { ordered = good.ordered; sound = good.sound; past = λ k d within. omega (arith, good.past k d within) }
 
-good_now : (w : World) (at : ℕ) (b : Bool) → nat_lt at w.held.now ≡ b → IsGood w.held → IsGood (if b then w else record w { held = record { history = w.held.history; now = at } }).held
+good_now : (w : World) (at : ℕ) (b : Bool) → nat_lt at w.site.now ≡ b → IsGood w.site → IsGood (if b then w else record w { site = record { history = w.site.history; now = at } }).site
 good_now w at true back good = good
-good_now w at false on good = good_later w.held at (ltb-false at w.held.now on) good
+good_now w at false on good = good_later w.site at (ltb-false at w.site.now on) good
 
-good_post : (w : World) (s : Sent) (b : Bool) → IsGood w.held
-    → IsGood (if b then record w { posted = w.posted ++ record { request = w.requests; sent = s } ∷ []; posts = w.posts + 1; requests = w.requests + 1 } else record w { requests = w.requests + 1 }).held
+good_post : (w : World) (s : Sent) (b : Bool) → IsGood w.site
+    → IsGood (if b then record w { posted = w.posted ++ record { request = w.requests; sent = s } ∷ []; posts = w.posts + 1; requests = w.requests + 1 } else record w { requests = w.requests + 1 }).site
 good_post w s true good = good
 good_post w s false good = good
 
-good_after : (w : World) (event : Event) → IsGood w.held → IsGood (after w event).held
+good_after : (w : World) (event : Event) → IsGood w.site → IsGood (after w event).site
 good_after w (events.Post s) good = good_post w s (is_posted w s) good
 good_after w (events.Audit query) good = good
-good_after w (events.Now at) good = good_now w at (nat_lt at w.held.now) refl good
-good_after w events.Settle good = good_all w.held w.posted good
+good_after w (events.Now at) good = good_now w at (nat_lt at w.site.now) refl good
+good_after w events.Settle good = good_all w.site w.posted good
 
 -- ---- along a run
 
-delivers_allowed : (h : Held) (request : ℕ) (s : Sent) → IsGood h → DeliversAllowed h request s
+delivers_allowed : (h : SiteState) (request : ℕ) (s : Sent) → IsGood h → DeliversAllowed h request s
 delivers_allowed h request (sent.Update update) good = tt
 delivers_allowed h request (sent.Query query) good = record {
   items = items_of_query (today h.history) query;
   cites = map (newest_cite h) (full_names (today h.history) query);
   newest_only = true;
-  line_is = refl;
+  out_is = refl;
   allowed = newest_allowed h query good;
 }
 
-all_deliver_allowed : (h : Held) (posted : List Posted) → IsGood h → AllDeliverAllowed h posted
+all_deliver_allowed : (h : SiteState) (posted : List Posted) → IsGood h → AllDeliverAllowed h posted
 all_deliver_allowed h [] good = tt
 all_deliver_allowed h (p ∷ ps) good = (delivers_allowed h p.request p.sent good, all_deliver_allowed (after_delivery h p.request p.sent) ps (good_delivery h p.request p.sent good))
 
-brings_allowed : (w : World) (event : Event) → IsGood w.held → BringsAllowed w event
+pub brings_allowed : (w : World) (event : Event) → IsGood w.site → BringsAllowed w event
 brings_allowed w (events.Post s) good = tt
 brings_allowed w (events.Audit query) good = tt
 brings_allowed w (events.Now at) good = tt
-brings_allowed w events.Settle good = all_deliver_allowed w.held w.posted good
+brings_allowed w events.Settle good = all_deliver_allowed w.site w.posted good
 
-answers_allowed : (w : World) (lines : List (List ℕ)) → IsGood w.held → AnswersAllowed w lines
+answers_allowed : (w : World) (lines : List (List ℕ)) → IsGood w.site → AnswersAllowed w lines
 answers_allowed w [] good = tt
 answers_allowed w (line ∷ lines) good = λ event says. (brings_allowed w event good, answers_allowed (after w event) lines (good_after w event good))
 
@@ -216,13 +217,24 @@ sound_start start = record {
   moments = λ i j d le within. absurd (omega arith);
 }
 
-good_start : (city : List ℕ) (w : World) → Starts city w → IsGood w.held
+good_start : (city : List ℕ) (w : World) → Starts city w → IsGood w.site
 good_start city w starts = record {
-  ordered = city_ordered city w.kinds w.agent w.held.history.start starts.is_city;
-  sound = subst (λ (es : List Entry). AreSound w.held.history.start (updates_in es)) (sym starts.nothing_accepted) (sound_start w.held.history.start);
-  past = no_past w.held.history w.held.now starts.nothing_accepted;
+  ordered = city_ordered city w.kinds w.agent w.site.history.start starts.is_city;
+  sound = subst (λ (es : List Entry). AreSound w.site.history.start (updates_in es)) (sym starts.nothing_accepted) (sound_start w.site.history.start);
+  past = no_past w.site.history w.site.now starts.nothing_accepted;
 }
 
 -- each answer of a script is allowed
-pub script_allowed : (city : List ℕ) (lines : List (List ℕ)) (w : World) → Starts city w → AnswersAllowed w lines
-script_allowed city lines w starts = answers_allowed w lines (good_start city w starts)
+pub script_allowed : (lines : List (List ℕ)) → ScriptAllowed lines
+script_allowed [] = tt
+script_allowed (city ∷ lines) = λ start starts. answers_allowed start lines (good_start city start starts)
+
+-- lines keep it
+good_runs : (w now : World) (lines : List (List ℕ)) (written : List ℕ) → IsGood w.site → Runs w lines written now → IsGood now.site
+good_runs w now [] written good runs = subst (λ (v : World). IsGood v.site) (sym runs.1) good
+good_runs w now (line ∷ lines) written good runs = good_runs (after w runs.0) now lines runs.1 (good_after w runs.0 good) runs.3
+
+-- where the lines of a script left the city
+pub good_done : (lines : List (List ℕ)) (done : List ℕ) (w : World) → DoneSo lines done (Some w) → IsGood w.site
+good_done [] done w did = absurd did
+good_done (city ∷ lines) done w did = good_runs did.0 w lines done (good_start city did.0 did.1) did.2

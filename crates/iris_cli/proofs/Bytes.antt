@@ -8,7 +8,7 @@ use Rattle.std.proofs.lemmas.List.{take-append-drop, length-take, drop-drop}
 use Rattle.std.proofs.Math.Seq.{take-append_seam}
 
 -- a list of length 0 is empty
-none_left : (xs : List ℕ) → length xs ≡ 0 → xs ≡ []
+pub none_left : (xs : List ℕ) → length xs ≡ 0 → xs ≡ []
 none_left [] h = refl
 none_left (x ∷ xs) h = absurd (omega arith)
 

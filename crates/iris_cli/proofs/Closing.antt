@@ -9,8 +9,9 @@ use Rattle.iris_cli.specs.declared.status.Status.{Status}
 use Rattle.iris_cli.specs.declared.status.Status.TheVariants.{BadScript, WriteFault, Limit, Memory}
 use Rattle.iris_cli.specs.Lines.{ended}
 use Rattle.iris_cli.specs.Run.{World}
-use Rattle.iris_cli.specs.Played.{AreLines, DoneSo, IsFront, last_line, IsStopped, Ending, PlaysOn}
+use Rattle.iris_cli.specs.Played.{AreLines, DoneSo, WritesFront, last_line, IsStopped, Ending, PlaysOn}
 use Rattle.iris_cli.specs.Stepped.{Halts, RanTo, status_of, Closes}
+use Rattle.iris_cli.proofs.Allowed.{script_allowed}
 use Rattle.iris_cli.proofs.Plays.{front_nil}
 
 no_front : (xs ys : List ℕ) → [] ≡ xs ++ ys → xs ≡ []
@@ -32,6 +33,7 @@ closed text left old mid new lines rest s done part more status text_is are did 
     text_is = text_is;
     are_lines = are;
     did = did;
+    allowed = script_allowed lines;
     written_is = append_assoc done part more;
     ending = ending;
   },
@@ -41,24 +43,24 @@ closed text left old mid new lines rest s done part more status text_is are did 
 told_whole : (lines : List (List ℕ)) (s : Option World) (rest left part : List ℕ) (number : ℕ) (result : Result (Unit {0}) Halt) → Halts lines s rest left part number result → Ending lines s rest left (part ++ last_line (status_of number result)) (status_of number result)
 told_whole lines s rest left part number (Ok u) h = (h.0, h.1, h.2, append-nil part ∙ h.3)
 told_whole lines s rest left part number (Err halts.ReadFault) h = (h.0, h.1, h.2, append-nil part ∙ h.3)
-told_whole lines s rest left part number (Err halts.WriteFault) h = inl (subst (IsFront s rest) (sym (append-nil part)) h)
+told_whole lines s rest left part number (Err halts.WriteFault) h = inl (subst (λ (v : List ℕ). WritesFront lines s rest left v) (sym (append-nil part)) h)
 told_whole lines s rest left part number (Err (halts.BadLine why)) h = (h.0, ap (λ v. v ++ last_line (BadScript number why)) h.1)
 told_whole lines s rest left part number (Err (halts.Limit which count)) h = (h.0, ap (λ v. v ++ last_line (Limit which count)) h.1)
-told_whole lines s rest left part number (Err halts.Memory) h = inl (subst (IsFront s rest) (sym (append-nil part)) h)
+told_whole lines s rest left part number (Err halts.Memory) h = inl (subst (λ (v : List ℕ). WritesFront lines s rest left v) (sym (append-nil part)) h)
 
 -- nothing was written, since there is no last line
 told_nothing : (lines : List (List ℕ)) (s : Option World) (rest left part more unwritten : List ℕ) → part ≡ [] → [] ≡ more ++ unwritten → IsStopped lines s rest left (part ++ more)
-told_nothing lines s rest left part more unwritten p e = inl (subst (IsFront s rest) (sym (ap (λ v. v ++ more) p ∙ no_front more unwritten e)) (front_nil s rest))
+told_nothing lines s rest left part more unwritten p e = inl (subst (λ (v : List ℕ). WritesFront lines s rest left v) (sym (ap (λ v. v ++ more) p ∙ no_front more unwritten e)) (front_nil lines s rest left))
 
 -- a front of the last line was written
 told_part : (lines : List (List ℕ)) (s : Option World) (rest left part more unwritten : List ℕ) (number : ℕ) (result : Result (Unit {0}) Halt) → Halts lines s rest left part number result → last_line (status_of number result) ≡ more ++ unwritten
     → IsStopped lines s rest left (part ++ more)
 told_part lines s rest left part more unwritten number (Ok u) h e = told_nothing lines s rest left part more unwritten h.3 e
 told_part lines s rest left part more unwritten number (Err halts.ReadFault) h e = told_nothing lines s rest left part more unwritten h.3 e
-told_part lines s rest left part more unwritten number (Err halts.WriteFault) h e = inl (subst (IsFront s rest) (sym (ap (λ v. part ++ v) (no_front more unwritten e) ∙ append-nil part)) h)
+told_part lines s rest left part more unwritten number (Err halts.WriteFault) h e = inl (subst (λ (v : List ℕ). WritesFront lines s rest left v) (sym (ap (λ v. part ++ v) (no_front more unwritten e) ∙ append-nil part)) h)
 told_part lines s rest left part more unwritten number (Err (halts.BadLine why)) h e = inr (BadScript number why, unwritten, h.0, e ∙ ap (λ v. (v ++ more) ++ unwritten) (sym h.1))
 told_part lines s rest left part more unwritten number (Err (halts.Limit which count)) h e = inr (Limit which count, unwritten, h.0, e ∙ ap (λ v. (v ++ more) ++ unwritten) (sym h.1))
-told_part lines s rest left part more unwritten number (Err halts.Memory) h e = inl (subst (IsFront s rest) (sym (ap (λ v. part ++ v) (no_front more unwritten e) ∙ append-nil part)) h)
+told_part lines s rest left part more unwritten number (Err halts.Memory) h e = inl (subst (λ (v : List ℕ). WritesFront lines s rest left v) (sym (ap (λ v. part ++ v) (no_front more unwritten e) ∙ append-nil part)) h)
 
 pub plays_on : (first last old mid new : Option (List ℕ)) (number : ℕ) (result : Result (Unit {0}) Halt) (answer : Status) → RanTo first last old mid number result → Closes mid new (status_of number result) answer → PlaysOn first last old new answer
 plays_on None last old mid new number result answer r c = tt

@@ -3,6 +3,7 @@ use Rattle.std.proofs.Common.{◌≡◌, ◌≢◌, ℕ, ◌+◌, ◌<◌, ◌�
 use Rattle.std.specs.List.{AllByRecursion, flat_map}
 use Rattle.std.specs.Io.KnownBytes.{Appends, Consumes}
 use Rattle.std.proofs.KnownBytes.{Appends-nil, Appends-trans}
+use Rattle.iris_base.specs.declared.limits.TheConstants.{MAX_CITY_BYTES, MAX_LINE_BYTES, MAX_SCRIPT_BYTES}
 use Rattle.iris_json.specs.declared.city.CityError.{CityError}
 use Rattle.iris_json.specs.declared.city.CityError.TheVariants as city_errors
 use Rattle.iris_json.specs.declared.line.LineError.{LineError}
@@ -16,11 +17,13 @@ use Rattle.iris_cli.specs.declared.halt.Halt.TheVariants.{ReadFault, WriteFault,
 use Rattle.iris_cli.specs.declared.event.Event.{Event}
 use Rattle.iris_cli.specs.declared.event.Event.TheVariants as events
 use Rattle.iris_cli.specs.Halt.{of_city, of_line}
-use Rattle.iris_cli.specs.Lines.{NoLf, ended}
-use Rattle.iris_cli.specs.Says.{Says, IsToldOf}
-use Rattle.iris_cli.specs.Run.{World, brings, is_posted, after, Runs, Starts}
-use Rattle.iris_cli.specs.Taken.{most_bytes, MayFollow, Passes, TakesNext}
-use Rattle.iris_cli.specs.Played.{room_after, AreLines, DoneSo, BeginsRefused, IsFront, IsFault}
+use Rattle.iris_cli.specs.Lines.{IsLine, ended}
+use Rattle.iris_cli.specs.LineSays.{LineSays, IsToldOf}
+use Rattle.iris_cli.specs.Run.{World, out_lines, brings, is_posted, after, Runs, Starts}
+use Rattle.iris_cli.specs.Allowed.{BringsAllowed}
+use Rattle.iris_cli.specs.Taken.{ScriptState, max_line_bytes, LineFollows, IsWithinLimits, PassesLimit, TakesNext}
+use Rattle.iris_cli.specs.Played.{room_after, AreShort, AreLines, DoneSo, BeginsRefused, WritesFront, IsFault}
+use Rattle.iris_cli.proofs.Allowed.{good_done, brings_allowed}
 use Rattle.iris_cli.specs.Stepped.{RefusesCityLine, AddsFront, Stepped, IsSoFar, Halts, RanTo}
 
 -- ---- a line more
@@ -33,22 +36,22 @@ all_more : (P : List ℕ → Type 0) (xs : List (List ℕ)) (x : List ℕ) → A
 all_more P [] x h k = (k, tt)
 all_more P (y ∷ xs) x h k = (h.0, all_more P xs x h.1 k)
 
-runs_more : (w : World) (lines : List (List ℕ)) (written : List ℕ) (now : World) (line : List ℕ) (event : Event) → Runs w lines written now → Says now.kinds line event
-    → Runs w (lines ++ line ∷ []) (written ++ flat_map ended (brings now event)) (after now event)
+runs_more : (w : World) (lines : List (List ℕ)) (written : List ℕ) (now : World) (line : List ℕ) (event : Event) → Runs w lines written now → LineSays now.kinds line event
+    → Runs w (lines ++ line ∷ []) (written ++ out_lines (brings now event)) (after now event)
 runs_more w [] written now line event h says =
-    let bytes = flat_map ended (brings now event) in
+    let bytes = out_lines (brings now event) in
     subst (λ (t : World). Runs t (line ∷ []) (written ++ bytes) (after now event)) h.1 (event, [], says, (refl, refl), ap (λ v. v ++ bytes) h.0 ∙ sym (append-nil bytes))
 runs_more w (first ∷ lines) written now line event h says =
-    let bytes = flat_map ended (brings now event) in (
+    let bytes = out_lines (brings now event) in (
       h.0,
       h.1 ++ bytes,
       h.2,
       runs_more (after w h.0) lines h.1 now line event h.3 says,
-      ap (λ v. v ++ bytes) h.4 ∙ append_assoc (flat_map ended (brings w h.0)) h.1 bytes,
+      ap (λ v. v ++ bytes) h.4 ∙ append_assoc (out_lines (brings w h.0)) h.1 bytes,
     )
 
-done_more : (lines : List (List ℕ)) (done : List ℕ) (w : World) (line : List ℕ) (event : Event) → DoneSo lines done (Some w) → Says w.kinds line event
-    → DoneSo (lines ++ line ∷ []) (done ++ flat_map ended (brings w event)) (Some (after w event))
+done_more : (lines : List (List ℕ)) (done : List ℕ) (w : World) (line : List ℕ) (event : Event) → DoneSo lines done (Some w) → LineSays w.kinds line event
+    → DoneSo (lines ++ line ∷ []) (done ++ out_lines (brings w event)) (Some (after w event))
 done_more [] done w line event h says = absurd h
 done_more (city ∷ lines) done w line event h says = (h.0, h.1, runs_more h.0 lines done w line event h.2 says)
 
@@ -57,16 +60,21 @@ nothing_done : (lines : List (List ℕ)) (done : List ℕ) → DoneSo lines done
 nothing_done [] done h = (refl, h)
 nothing_done (city ∷ lines) done h = absurd h
 
-lines_more : (lines : List (List ℕ)) (line : List ℕ) (number room less : ℕ) → AreLines lines → number ≡ length lines → room + length (flat_map ended lines) ≡ most_bytes → MayFollow number room line → less + length (ended line) ≡ room
-    → AreLines (lines ++ line ∷ []) × (less + length (flat_map ended (lines ++ line ∷ [])) ≡ most_bytes)
+-- a line more, within its limit
+short_more : (lines : List (List ℕ)) (line : List ℕ) → AreShort lines → IsLine (max_line_bytes (length lines)) line → AreShort (lines ++ line ∷ [])
+short_more [] line short next = (next, tt)
+short_more (city ∷ lines) line short next = (short.0, all_more (IsLine MAX_LINE_BYTES) lines line short.1 next)
+
+lines_more : (lines : List (List ℕ)) (line : List ℕ) (number room less : ℕ) → AreLines lines → number ≡ length lines → room + length (flat_map ended lines) ≡ MAX_SCRIPT_BYTES → LineFollows number room line → less + length (ended line) ≡ room
+    → AreLines (lines ++ line ∷ []) × (less + length (flat_map ended (lines ++ line ∷ [])) ≡ MAX_SCRIPT_BYTES)
 lines_more lines line number room less are n r f k =
     let front = flat_map ended lines in
     let sum : length (flat_map ended (lines ++ line ∷ [])) ≡ length front + length (ended line) = ap length (flat_more ended lines line) ∙ length-append front (ended line) in
     let size : length (lines ++ line ∷ []) ≡ length lines + 1 = length-append lines (line ∷ []) in
     let few = f.0 in
-    let total : less + length (flat_map ended (lines ++ line ∷ [])) ≡ most_bytes = omega (arith, sum, k, r) in (
+    let total : less + length (flat_map ended (lines ++ line ∷ [])) ≡ MAX_SCRIPT_BYTES = omega (arith, sum, k, r) in (
       record {
-        each = all_more NoLf lines line are.each f.1.0;
+        each = short_more lines line are.each (subst (λ (m : ℕ). IsLine (max_line_bytes m) line) n f.1);
         few = omega (arith, size, few, n);
         short = omega (arith, total);
       },
@@ -75,18 +83,17 @@ lines_more lines line number room less are n r f k =
 
 -- ---- lines so far
 
-pub so_start : (now held : Option (List ℕ)) (number room : ℕ) → number ≡ 0 → room ≡ most_bytes → IsSoFar now now held held number room None
+pub so_start : (now held : Option (List ℕ)) (number room : ℕ) → number ≡ 0 → room ≡ MAX_SCRIPT_BYTES → IsSoFar now now held held number room None
 so_start None held number room n r = tt
 so_start (Some text) held number room n r = ([], [], refl, record { each = tt; few = omega arith; short = omega arith }, refl, Appends-nil held, n, omega (arith, r))
 
 -- the first line was taken, and not the end
-pub first_taken : (number room at less : ℕ) (old new : Option (List ℕ)) (line : List ℕ) (more : Bool) → number ≡ 0 → TakesNext number room old new line at less (Ok more)
-    → Consumes old new (ended line) × MayFollow number room line × (at ≡ number + 1) × (less + length (ended line) ≡ room)
-first_taken number room at less old new line true n t = t
-first_taken number room at less old new line false n t = absurd (let some = t.2 in omega (arith, some, n))
+pub first_taken : (s t : ScriptState) (old new : Option (List ℕ)) (more : Bool) → s.number ≡ 0 → TakesNext s old new t (Ok more) → TakesNext s old new t (Ok true)
+first_taken s t old new true n taken = taken
+first_taken s t old new false n taken = absurd (let some = taken.2 in omega (arith, some, n))
 
 -- the city line was taken
-pub so_city : (first now next old new : Option (List ℕ)) (number room less : ℕ) (w : World) (line : List ℕ) → IsSoFar first now old new number room None → Consumes now next (ended line) → MayFollow number room line → less + length (ended line) ≡ room → Starts line w
+pub so_city : (first now next old new : Option (List ℕ)) (number room less : ℕ) (w : World) (line : List ℕ) → IsSoFar first now old new number room None → Consumes now next (ended line) → LineFollows number room line → less + length (ended line) ≡ room → Starts line w
     → IsSoFar first next old new (number + 1) less (Some w)
 so_city None now next old new number room less w line h c n k starts = tt
 so_city (Some text) None next old new number room less w line h c n k starts = absurd h
@@ -103,12 +110,12 @@ so_city (Some text) (Some rest) (Some more) old new number room less w line h c 
       (w, starts, (refl, refl)),
       subst (λ (v : List ℕ). Appends old new v) none.1 h.5,
       ap (λ m. m + 1) (h.6 ∙ ap length none.0),
-      subst (λ (v : List (List ℕ)). less + length (flat_map ended v) ≡ most_bytes) joined all.1,
+      subst (λ (v : List (List ℕ)). less + length (flat_map ended v) ≡ MAX_SCRIPT_BYTES) joined all.1,
     )
 
 -- a line after it was taken and done
-pub so_line : (first now next old mid new : Option (List ℕ)) (number room less : ℕ) (w : World) (line : List ℕ) (event : Event) → IsSoFar first now old mid number room (Some w) → Consumes now next (ended line) → MayFollow number room line
-    → less + length (ended line) ≡ room → Says w.kinds line event → Appends mid new (flat_map ended (brings w event)) → IsSoFar first next old new (number + 1) less (Some (after w event))
+pub so_line : (first now next old mid new : Option (List ℕ)) (number room less : ℕ) (w : World) (line : List ℕ) (event : Event) → IsSoFar first now old mid number room (Some w) → Consumes now next (ended line) → LineFollows number room line
+    → less + length (ended line) ≡ room → LineSays w.kinds line event → Appends mid new (out_lines (brings w event)) → IsSoFar first next old new (number + 1) less (Some (after w event))
 so_line None now next old mid new number room less w line event h c n k says a = tt
 so_line (Some text) None next old mid new number room less w line event h c n k says a = absurd h
 so_line (Some text) (Some rest) None old mid new number room less w line event h c n k says a = absurd c
@@ -116,11 +123,11 @@ so_line (Some text) (Some rest) (Some more) old mid new number room less w line 
     let front = flat_map ended h.0 in
     let all = lines_more h.0 line number room less h.3 h.6 h.7 n k in (
       h.0 ++ line ∷ [],
-      h.1 ++ flat_map ended (brings w event),
+      h.1 ++ out_lines (brings w event),
       h.2 ∙ ap (λ v. front ++ v) c ∙ sym (ap (λ v. v ++ more) (flat_more ended h.0 line) ∙ append_assoc front (ended line) more),
       all.0,
       done_more h.0 h.1 w line event h.4 says,
-      Appends-trans old mid new h.1 (flat_map ended (brings w event)) h.5 a,
+      Appends-trans old mid new h.1 (out_lines (brings w event)) h.5 a,
       ap (λ m. m + 1) h.6 ∙ sym (length-append h.0 (line ∷ [])),
       all.1,
     )
@@ -128,9 +135,9 @@ so_line (Some text) (Some rest) (Some more) old mid new number room less w line 
 -- ---- where the lines end
 
 -- nothing is a front of what comes next
-pub front_nil : (w : Option World) (rest : List ℕ) → IsFront w rest []
-front_nil None rest = refl
-front_nil (Some w) rest = inl refl
+pub front_nil : (lines : List (List ℕ)) (w : Option World) (rest left : List ℕ) → WritesFront lines w rest left []
+front_nil lines None rest left = refl
+front_nil lines (Some w) rest left = inl refl
 
 no_lines : (lines : List (List ℕ)) → length lines ≡ 0 → lines ≡ []
 no_lines [] h = refl
@@ -147,55 +154,58 @@ ends text rest left old mid new number room w part at result h a halts =
     (h.0, rest, w, h.1, part, h.2, h.3, h.4, Appends-trans old mid new h.1 part h.5 a, halts h.0 h.6 room_is)
 
 -- what may follow, by the lines
-follows : (lines : List (List ℕ)) (line : List ℕ) (number room : ℕ) → number ≡ length lines → room ≡ room_after lines → MayFollow number room line → MayFollow (length lines) (room_after lines) line
-follows lines line number room n r f = subst (λ (m : ℕ). MayFollow m (room_after lines) line) n (subst (λ (m : ℕ). MayFollow number m line) r f)
+follows : (lines : List (List ℕ)) (line : List ℕ) (number room : ℕ) → number ≡ length lines → room ≡ room_after lines → LineFollows number room line → LineFollows (length lines) (room_after lines) line
+follows lines line number room n r f = subst (λ (m : ℕ). LineFollows m (room_after lines) line) n (subst (λ (m : ℕ). LineFollows number m line) r f)
 
-passes : (lines : List (List ℕ)) (front : List ℕ) (number room : ℕ) (which : Which) (count : ℕ) → number ≡ length lines → room ≡ room_after lines → Passes number room front which count → Passes (length lines) (room_after lines) front which count
-passes lines front number room which count n r p = subst (λ (m : ℕ). Passes m (room_after lines) front which count) n (subst (λ (m : ℕ). Passes number m front which count) r p)
+within : (lines : List (List ℕ)) (line : List ℕ) (number room : ℕ) → number ≡ length lines → room ≡ room_after lines → IsWithinLimits number room line → IsWithinLimits (length lines) (room_after lines) line
+within lines line number room n r f = subst (λ (m : ℕ). IsWithinLimits m (room_after lines) line) n (subst (λ (m : ℕ). IsWithinLimits number m line) r f)
+
+passes : (lines : List (List ℕ)) (front : List ℕ) (number room : ℕ) (which : Which) (count : ℕ) → number ≡ length lines → room ≡ room_after lines → PassesLimit number room front which count → PassesLimit (length lines) (room_after lines) front which count
+passes lines front number room which count n r p = subst (λ (m : ℕ). PassesLimit m (room_after lines) front which count) n (subst (λ (m : ℕ). PassesLimit number m front which count) r p)
 
 -- the reader of the script gives no further line
-pub next_halts : (first now next old new : Option (List ℕ)) (number room at less : ℕ) (w : Option World) (line : List ℕ) (halt : Halt) → IsSoFar first now old new number room w → TakesNext number room now next line at less (Err halt) → RanTo first next old new at (Err halt)
-next_halts None now next old new number room at less w line halt h t = tt
-next_halts (Some text) None next old new number room at less w line halt h t = absurd h
-next_halts (Some text) (Some rest) None old new number room at less w line ReadFault h t = absurd t.1
-next_halts (Some text) (Some rest) None old new number room at less w line WriteFault h t = absurd t
-next_halts (Some text) (Some rest) None old new number room at less w line (BadLine whys.Empty) h t = absurd t.0
-next_halts (Some text) (Some rest) None old new number room at less w line (BadLine whys.Truncated) h t = absurd t.1
-next_halts (Some text) (Some rest) None old new number room at less w line (BadLine whys.NotJson) h t = absurd t
-next_halts (Some text) (Some rest) None old new number room at less w line (BadLine whys.Shape) h t = absurd t
-next_halts (Some text) (Some rest) None old new number room at less w line (BadLine whys.Name) h t = absurd t
-next_halts (Some text) (Some rest) None old new number room at less w line (BadLine whys.Number) h t = absurd t
-next_halts (Some text) (Some rest) None old new number room at less w line (BadLine whys.Change) h t = absurd t
-next_halts (Some text) (Some rest) None old new number room at less w line (Limit which count) h t = absurd t.1
-next_halts (Some text) (Some rest) None old new number room at less w line Memory h t = absurd t.1
-next_halts (Some text) (Some rest) (Some left) old new number room at less w line ReadFault h t =
-    ends text rest left old new new number room w [] at (Err ReadFault) h (Appends-nil new) (λ lines n r. (t.0, t.1, t.2, refl))
-next_halts (Some text) (Some rest) (Some left) old new number room at less w line WriteFault h t = absurd t
-next_halts (Some text) (Some rest) (Some left) old new number room at less w line (BadLine whys.Empty) h t =
-    ends text rest left old new new number room w [] at (Err (BadLine whys.Empty)) h (Appends-nil new) (λ lines n r. ((no_lines lines (sym n ∙ t.2), t.0 ∙ t.1, t.1, t.3 ∙ ap (λ m. m + 1) t.2), refl))
-next_halts (Some text) (Some rest) (Some left) old new number room at less w line (BadLine whys.Truncated) h t =
-    let same : t.0 ≡ rest = sym (t.1 ∙ ap (λ v. t.0 ++ v) t.4 ∙ append-nil t.0) in
-    ends text rest left old new new number room w [] at (Err (BadLine whys.Truncated)) h (Appends-nil new) (λ lines n r. (
-      (subst (λ (v : List ℕ). MayFollow (length lines) (room_after lines) v) same (follows lines t.0 number room n r t.2), (λ e. t.3 (same ∙ e)), t.4, t.5 ∙ ap (λ m. m + 1) n),
+pub next_halts : (first now next old new : Option (List ℕ)) (s t : ScriptState) (w : Option World) (halt : Halt) → IsSoFar first now old new s.number s.room w → TakesNext s now next t (Err halt) → RanTo first next old new t.number (Err halt)
+next_halts None now next old new s t w halt h k = tt
+next_halts (Some text) None next old new s t w halt h k = absurd h
+next_halts (Some text) (Some rest) None old new s t w ReadFault h k = absurd k.1
+next_halts (Some text) (Some rest) None old new s t w WriteFault h k = absurd k
+next_halts (Some text) (Some rest) None old new s t w (BadLine whys.Empty) h k = absurd k.0
+next_halts (Some text) (Some rest) None old new s t w (BadLine whys.Truncated) h k = absurd k.1
+next_halts (Some text) (Some rest) None old new s t w (BadLine whys.NotJson) h k = absurd k
+next_halts (Some text) (Some rest) None old new s t w (BadLine whys.Shape) h k = absurd k
+next_halts (Some text) (Some rest) None old new s t w (BadLine whys.Name) h k = absurd k
+next_halts (Some text) (Some rest) None old new s t w (BadLine whys.Number) h k = absurd k
+next_halts (Some text) (Some rest) None old new s t w (BadLine whys.Change) h k = absurd k
+next_halts (Some text) (Some rest) None old new s t w (Limit which count) h k = absurd k.1
+next_halts (Some text) (Some rest) None old new s t w Memory h k = absurd k.1
+next_halts (Some text) (Some rest) (Some left) old new s t w ReadFault h k =
+    ends text rest left old new new s.number s.room w [] t.number (Err ReadFault) h (Appends-nil new) (λ lines n r. (k.0, k.1, within lines k.0 s.number s.room n r k.2, refl))
+next_halts (Some text) (Some rest) (Some left) old new s t w WriteFault h k = absurd k
+next_halts (Some text) (Some rest) (Some left) old new s t w (BadLine whys.Empty) h k =
+    ends text rest left old new new s.number s.room w [] t.number (Err (BadLine whys.Empty)) h (Appends-nil new) (λ lines n r. ((no_lines lines (sym n ∙ k.2), k.0 ∙ k.1, k.1, k.3 ∙ ap (λ m. m + 1) k.2), refl))
+next_halts (Some text) (Some rest) (Some left) old new s t w (BadLine whys.Truncated) h k =
+    let same : k.0 ≡ rest = sym (k.1 ∙ ap (λ v. k.0 ++ v) k.4 ∙ append-nil k.0) in
+    ends text rest left old new new s.number s.room w [] t.number (Err (BadLine whys.Truncated)) h (Appends-nil new) (λ lines n r. (
+      (subst (λ (v : List ℕ). IsWithinLimits (length lines) (room_after lines) v) same (within lines k.0 s.number s.room n r k.2), (λ e. k.3 (same ∙ e)), k.4, k.5 ∙ ap (λ m. m + 1) n),
       refl,
     ))
-next_halts (Some text) (Some rest) (Some left) old new number room at less w line (BadLine whys.NotJson) h t = absurd t
-next_halts (Some text) (Some rest) (Some left) old new number room at less w line (BadLine whys.Shape) h t = absurd t
-next_halts (Some text) (Some rest) (Some left) old new number room at less w line (BadLine whys.Name) h t = absurd t
-next_halts (Some text) (Some rest) (Some left) old new number room at less w line (BadLine whys.Number) h t = absurd t
-next_halts (Some text) (Some rest) (Some left) old new number room at less w line (BadLine whys.Change) h t = absurd t
-next_halts (Some text) (Some rest) (Some left) old new number room at less w line (Limit which count) h t =
-    ends text rest left old new new number room w [] at (Err (Limit which count)) h (Appends-nil new) (λ lines n r. (inl (t.0, t.1, passes lines t.0 number room which count n r t.2), refl))
-next_halts (Some text) (Some rest) (Some left) old new number room at less w line Memory h t =
-    ends text rest left old new new number room w [] at (Err Memory) h (Appends-nil new) (λ lines n r. front_nil w rest)
+next_halts (Some text) (Some rest) (Some left) old new s t w (BadLine whys.NotJson) h k = absurd k
+next_halts (Some text) (Some rest) (Some left) old new s t w (BadLine whys.Shape) h k = absurd k
+next_halts (Some text) (Some rest) (Some left) old new s t w (BadLine whys.Name) h k = absurd k
+next_halts (Some text) (Some rest) (Some left) old new s t w (BadLine whys.Number) h k = absurd k
+next_halts (Some text) (Some rest) (Some left) old new s t w (BadLine whys.Change) h k = absurd k
+next_halts (Some text) (Some rest) (Some left) old new s t w (Limit which count) h k =
+    ends text rest left old new new s.number s.room w [] t.number (Err (Limit which count)) h (Appends-nil new) (λ lines n r. (inl (k.0, k.1, passes lines k.0 s.number s.room which count n r k.2), refl))
+next_halts (Some text) (Some rest) (Some left) old new s t w Memory h k =
+    ends text rest left old new new s.number s.room w [] t.number (Err Memory) h (Appends-nil new) (λ lines n r. front_nil lines w rest left)
 
 -- the script ended after a line
-pub next_ends : (first now next old new : Option (List ℕ)) (number room at less : ℕ) (w : Option World) (line : List ℕ) → IsSoFar first now old new number room w → TakesNext number room now next line at less (Ok false) → RanTo first next old new at (Ok tt)
-next_ends None now next old new number room at less w line h t = tt
-next_ends (Some text) None next old new number room at less w line h t = absurd h
-next_ends (Some text) (Some rest) None old new number room at less w line h t = absurd t.0
-next_ends (Some text) (Some rest) (Some left) old new number room at less w line h t =
-    ends text rest left old new new number room w [] at (Ok tt) h (Appends-nil new) (λ lines n r. (some_lines lines (subst (λ m. 0 < m) n t.2), t.0 ∙ t.1, t.1, refl))
+pub next_ends : (first now next old new : Option (List ℕ)) (s t : ScriptState) (w : Option World) → IsSoFar first now old new s.number s.room w → TakesNext s now next t (Ok false) → RanTo first next old new t.number (Ok tt)
+next_ends None now next old new s t w h k = tt
+next_ends (Some text) None next old new s t w h k = absurd h
+next_ends (Some text) (Some rest) None old new s t w h k = absurd k.0
+next_ends (Some text) (Some rest) (Some left) old new s t w h k =
+    ends text rest left old new new s.number s.room w [] t.number (Ok tt) h (Appends-nil new) (λ lines n r. (some_lines lines (subst (λ m. 0 < m) n k.2), k.0 ∙ k.1, k.1, refl))
 
 -- ---- a line that is refused
 
@@ -228,7 +238,7 @@ is_fault lines w rest left at whys.Number t b e = (b, e)
 is_fault lines w rest left at whys.Change t b e = (b, e)
 
 -- the first line is no city
-pub start_halts : (first now next old new : Option (List ℕ)) (number room at : ℕ) (line : List ℕ) (halt : Halt) → IsSoFar first now old new number room None → Consumes now next (ended line) → MayFollow number room line → at ≡ number + 1 → RefusesCityLine line halt
+pub start_halts : (first now next old new : Option (List ℕ)) (number room at : ℕ) (line : List ℕ) (halt : Halt) → IsSoFar first now old new number room None → Consumes now next (ended line) → LineFollows number room line → at ≡ number + 1 → RefusesCityLine line halt
     → RanTo first next old new at (Err halt)
 start_halts None now next old new number room at line halt h c n l f = tt
 start_halts (Some text) None next old new number room at line halt h c n l f = absurd h
@@ -244,25 +254,26 @@ start_halts (Some text) (Some rest) (Some left) old new number room at line Memo
     ends text rest left old new new number room None [] at (Err Memory) h (Appends-nil new) (λ lines k r. refl)
 
 -- a front of what a line brings about was added
-adds_front : (text rest left : List ℕ) (old mid new : Option (List ℕ)) (number room at : ℕ) (w : World) (line : List ℕ) (halt : Halt) → IsSoFar (Some text) (Some rest) old mid number room (Some w) → rest ≡ ended line ++ left → NoLf line → AddsFront w line mid new
-    → ((lines : List (List ℕ)) (part : List ℕ) → IsFront (Some w) rest part → Halts lines (Some w) rest left part at (Err halt)) → RanTo (Some text) (Some left) old new at (Err halt)
+adds_front : (text rest left : List ℕ) (old mid new : Option (List ℕ)) (number room at : ℕ) (w : World) (line : List ℕ) (halt : Halt) → IsSoFar (Some text) (Some rest) old mid number room (Some w) → rest ≡ ended line ++ left → LineFollows number room line
+    → AddsFront w line mid new → ((lines : List (List ℕ)) (part : List ℕ) → WritesFront lines (Some w) rest left part → Halts lines (Some w) rest left part at (Err halt)) → RanTo (Some text) (Some left) old new at (Err halt)
 adds_front text rest left old mid new number room at w line halt h c n (inl a) f = ends text rest left old mid new number room (Some w) [] at (Err halt) h a (λ lines k r. f lines [] (inl refl))
 adds_front text rest left old mid new number room at w line halt h c n (inr p) f =
-    ends text rest left old mid new number room (Some w) p.2.0 at (Err halt) h p.2.3 (λ lines k r. f lines p.2.0 (inr (line, left, p.0, p.2.1, c, n, p.1, p.2.2)))
+    let good = good_done h.0 h.1 w h.4 in
+    ends text rest left old mid new number room (Some w) p.2.0 at (Err halt) h p.2.3 (λ lines k r. f lines p.2.0 (inr (line, p.0, p.2.1, c, follows lines line number room k r n, p.1, brings_allowed w p.0 good, p.2.2)))
 
 -- a line after it is refused, or what it brings about can't be written whole
-pub run_halts : (first now next old mid new : Option (List ℕ)) (number room at : ℕ) (w v : World) (line : List ℕ) (halt : Halt) → IsSoFar first now old mid number room (Some w) → Consumes now next (ended line) → MayFollow number room line → at ≡ number + 1
+pub run_halts : (first now next old mid new : Option (List ℕ)) (number room at : ℕ) (w v : World) (line : List ℕ) (halt : Halt) → IsSoFar first now old mid number room (Some w) → Consumes now next (ended line) → LineFollows number room line → at ≡ number + 1
     → Stepped w v line mid new (Err halt) → RanTo first next old new at (Err halt)
 run_halts None now next old mid new number room at w v line halt h c n l f = tt
 run_halts (Some text) None next old mid new number room at w v line halt h c n l f = absurd h
 run_halts (Some text) (Some rest) None old mid new number room at w v line halt h c n l f = absurd c
 run_halts (Some text) (Some rest) (Some left) old mid new number room at w v line ReadFault h c n l f = absurd f
-run_halts (Some text) (Some rest) (Some left) old mid new number room at w v line WriteFault h c n l f = adds_front text rest left old mid new number room at w line WriteFault h c n.1.0 f (λ lines part x. x)
+run_halts (Some text) (Some rest) (Some left) old mid new number room at w v line WriteFault h c n l f = adds_front text rest left old mid new number room at w line WriteFault h c n f (λ lines part x. x)
 run_halts (Some text) (Some rest) (Some left) old mid new number room at w v line (BadLine why) h c n l f =
     ends text rest left old mid new number room (Some w) [] at (Err (BadLine why)) h f.2
     (λ lines k r. (is_fault lines (Some w) rest left at why (told_event w.kinds line why f.1) (line, c, follows lines line number room k r n, (f.0, f.1)) (l ∙ ap (λ m. m + 1) k), refl))
 run_halts (Some text) (Some rest) (Some left) old mid new number room at w v line (Limit which count) h c n l f = absurd f
-run_halts (Some text) (Some rest) (Some left) old mid new number room at w v line Memory h c n l f = adds_front text rest left old mid new number room at w line Memory h c n.1.0 f (λ lines part x. x)
+run_halts (Some text) (Some rest) (Some left) old mid new number room at w v line Memory h c n l f = adds_front text rest left old mid new number room at w line Memory h c n f (λ lines part x. x)
 
 -- ---- the numbers of posts and requests
 
@@ -277,5 +288,5 @@ by_choice false w v u h k = k
 pub one_request : (w : World) (event : Event) → w.posts ≤ w.requests → Counts w (after w event)
 one_request w (events.Post s) h = by_choice (is_posted w s) w _ _ (omega arith, omega (arith, h)) (omega arith, omega (arith, h))
 one_request w (events.Audit query) h = (omega arith, omega (arith, h))
-one_request w (events.Now at) h = by_choice (nat_lt at w.held.now) w _ _ (omega arith, h) (omega arith, h)
+one_request w (events.Now at) h = by_choice (nat_lt at w.site.now) w _ _ (omega arith, h) (omega arith, h)
 one_request w events.Settle h = (omega arith, h)

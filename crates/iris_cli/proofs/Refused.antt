@@ -18,14 +18,14 @@ use Rattle.iris_xpath.specs.declared.error.QueryError.TheVariants as query_error
 use Rattle.iris_cli.specs.declared.event.Event.TheVariants as events
 use Rattle.iris_cli.specs.declared.event.Sent.TheVariants as sent
 use Rattle.iris_cli.specs.Halt.{of_city, of_line, of_query}
-use Rattle.iris_cli.specs.Says.{Spells, IsNoEvent, RefusesEvent}
-use Rattle.iris_cli.specs.Played.{IsNoCity}
+use Rattle.iris_cli.specs.LineSays.{Spells, IsNoEvent, RefusesEvent}
+use Rattle.iris_cli.specs.Played.{IsNoCityLine}
 use Rattle.iris_cli.specs.Stepped.{RefusesCityLine}
 
 -- ---- the city line
 
 no_city : (bytes : List ℕ) (result : Result City CityError) → ((kinds : List (List ℕ)) (agent : List ℕ) (tree : Node) → GivesCity result kinds agent tree → ⊥) → ((kinds : List (List ℕ)) (agent : List ℕ) (tree : Node) → ReadsCity bytes kinds agent tree → GivesCity result kinds agent tree)
-    → IsNoCity bytes
+    → IsNoCityLine bytes
 no_city bytes result none only kinds agent tree reads = none kinds agent tree (only kinds agent tree reads)
 
 pub refused_city : (bytes : List ℕ) (error : CityError) → ((kinds : List (List ℕ)) (agent : List ℕ) (tree : Node) → ReadsCity bytes kinds agent tree → GivesCity (Err error) kinds agent tree) → RefusesCity bytes error → RefusesCityLine bytes (of_city error)

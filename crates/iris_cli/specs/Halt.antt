@@ -1,5 +1,7 @@
 -- Why the play of a script goes no further, by the errors of what it calls.
 use Rattle.std.specs.Prelude.{◌≡◌, List, [], ◌∷◌, ℕ, codes}
+use Rattle.iris_base.specs.declared.faults.Fault.{Fault}
+use Rattle.iris_base.specs.declared.faults.Fault.TheVariants as faults
 use Rattle.iris_json.specs.declared.out.Why.{Why}
 use Rattle.iris_json.specs.declared.out.Why.TheVariants as whys
 use Rattle.iris_json.specs.declared.line.LineWhy.{LineWhy}
@@ -10,21 +12,20 @@ use Rattle.iris_json.specs.declared.line.LineError.{LineError}
 use Rattle.iris_json.specs.declared.line.LineError.TheVariants as line
 use Rattle.iris_xpath.specs.declared.error.QueryError.{QueryError}
 use Rattle.iris_xpath.specs.declared.error.QueryError.TheVariants as query
-use Rattle.iris_cli.specs.declared.source.SourceError.{SourceError}
-use Rattle.iris_cli.specs.declared.source.SourceError.TheVariants as source
-use Rattle.iris_cli.specs.declared.sink.SinkError.{SinkError}
-use Rattle.iris_cli.specs.declared.sink.SinkError.TheVariants as sink
 use Rattle.iris_cli.specs.declared.halt.Halt.{Halt}
 use Rattle.iris_cli.specs.declared.halt.Halt.TheVariants.{ReadFault, WriteFault, BadLine, Limit, Memory}
 
-abbrev pub of_source : SourceError → Halt
-of_source source.Failed = ReadFault
-of_source source.Memory = Memory
+-- by the fault of a source
+abbrev pub of_source : Fault → Halt
+of_source faults.Failed = ReadFault
+of_source faults.Memory = Memory
 
-abbrev pub of_sink : SinkError → Halt
-of_sink sink.Failed = WriteFault
-of_sink sink.Memory = Memory
+-- by the fault of a sink
+abbrev pub of_sink : Fault → Halt
+of_sink faults.Failed = WriteFault
+of_sink faults.Memory = Memory
 
+-- by the error of a city line
 abbrev pub of_city : CityError → Halt
 of_city city.NotJson = BadLine whys.NotJson
 of_city (city.BadCity why) = BadLine whys.Shape
@@ -38,11 +39,13 @@ why_of line_whys.Name = whys.Name
 why_of line_whys.Number = whys.Number
 why_of line_whys.Change = whys.Change
 
+-- by the error of a line after it
 abbrev pub of_line : LineError → Halt
 of_line line.NotJson = BadLine whys.NotJson
 of_line (line.BadLine why) = BadLine (why_of why)
 of_line line.Memory = Memory
 
+-- by the error of a query's text
 abbrev pub of_query : QueryError → Halt
 of_query query.Later = BadLine whys.Shape
 of_query query.Memory = Memory

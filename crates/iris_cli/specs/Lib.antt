@@ -1,11 +1,10 @@
+pub mod Acts
 pub mod Allowed
 pub mod Halt
+pub mod LineSays
 pub mod Lines
-pub mod Messages
-pub mod Outside
 pub mod Played
 pub mod Run
-pub mod Says
 pub mod Sessions
 pub mod Statuses
 pub mod Stepped

@@ -2,6 +2,7 @@
 use Rattle.std.specs.Prelude.{◌≡◌, ◌≢◌, ℕ, ◌+◌, ◌-◌, ◌≤◌, List, [], ◌∷◌, ◌++◌, ◌⊎◌, length, Option, Some, None}
 use Rattle.std.specs.List.{flat_map, AllByRecursion}
 use Rattle.std.specs.Io.KnownBytes.{Appends}
+use Rattle.iris_base.specs.declared.limits.TheConstants.{MAX_CITY_BYTES, MAX_LINE_BYTES, MAX_SCRIPT_BYTES, MAX_LINES}
 use Rattle.iris_tree.specs.Universe.{Node}
 use Rattle.iris_json.specs.CityLine.{ReadsCity, RefusesCity}
 use Rattle.iris_json.specs.declared.city.CityError.{CityError}
@@ -10,29 +11,34 @@ use Rattle.iris_json.specs.declared.out.Why.TheVariants as whys
 use Rattle.iris_json.specs.declared.out.Which.{Which}
 use Rattle.iris_json.specs.declared.out.Out.{Out}
 use Rattle.iris_json.specs.declared.out.Out.TheVariants as outs
-use Rattle.iris_json.specs.Out.{out_text}
 use Rattle.iris_cli.specs.declared.halt.Halt.{Halt}
 use Rattle.iris_cli.specs.declared.halt.Halt.TheVariants as halts
 use Rattle.iris_cli.specs.declared.status.Status.{Status}
 use Rattle.iris_cli.specs.declared.status.Status.TheVariants.{Done, Usage, BadScript, ReadFault, WriteFault, Limit, Memory}
 use Rattle.iris_cli.specs.declared.event.Event.{Event}
 use Rattle.iris_cli.specs.Halt.{of_city}
-use Rattle.iris_cli.specs.Lines.{NoLf, ended}
-use Rattle.iris_cli.specs.Says.{Says, IsNoEvent, IsToldOf}
-use Rattle.iris_cli.specs.Run.{World, brings, RunsScript}
-use Rattle.iris_cli.specs.Taken.{most_lines, most_bytes, Passes, MayFollow}
+use Rattle.iris_cli.specs.Lines.{ended, IsLine}
+use Rattle.iris_cli.specs.LineSays.{LineSays, IsNoEvent, IsToldOf}
+use Rattle.iris_cli.specs.Run.{World, out_line, out_lines, brings, RunsScript}
+use Rattle.iris_cli.specs.Allowed.{BringsAllowed, ScriptAllowed}
+use Rattle.iris_cli.specs.Taken.{PassesLimit, LineFollows, IsWithinLimits}
 
 -- ---- the lines that were done
 
 -- how many bytes a script may have after these lines
 abbrev pub room_after : List (List ℕ) → ℕ
-room_after lines = most_bytes - length (flat_map ended lines)
+room_after lines = MAX_SCRIPT_BYTES - length (flat_map ended lines)
+
+-- each line is within its limit: the city line, and those after it
+abbrev pub AreShort : List (List ℕ) → Type 0
+AreShort [] = Unit {0}
+AreShort (city ∷ lines) = IsLine MAX_CITY_BYTES city × AllByRecursion (IsLine MAX_LINE_BYTES) lines
 
 -- the lines of a script: the city line, lines after it, and not too many of them nor of their bytes
 pub record AreLines (lines : List (List ℕ)) : Type 0 where
-  pub each : AllByRecursion NoLf lines
-  pub few : length lines ≤ most_lines
-  pub short : length (flat_map ended lines) ≤ most_bytes
+  pub each : AreShort lines
+  pub few : length lines ≤ MAX_LINES
+  pub short : length (flat_map ended lines) ≤ MAX_SCRIPT_BYTES
 
 -- the bytes that lines wrote, the first of them the city, and where that left the city
 abbrev pub DoneSo : List (List ℕ) → List ℕ → Option World → Type 0
@@ -44,12 +50,12 @@ DoneSo (city ∷ lines) written (Some w) = RunsScript city lines written w
 -- ---- a line that is refused
 
 -- the line is no city line
-abbrev pub IsNoCity : List ℕ → Type 0
-IsNoCity line = (kinds : List (List ℕ)) (agent : List ℕ) (document : Node) → ReadsCity line kinds agent document → ⊥
+abbrev pub IsNoCityLine : List ℕ → Type 0
+IsNoCityLine line = (kinds : List (List ℕ)) (agent : List ℕ) (document : Node) → ReadsCity line kinds agent document → ⊥
 
 -- the line is no city line, and that is told of it
 abbrev pub IsRefusedCity : List ℕ → Halt → Type 0
-IsRefusedCity line halt = IsNoCity line × ((error : CityError) × RefusesCity line error × (of_city error ≡ halt))
+IsRefusedCity line halt = IsNoCityLine line × ((error : CityError) × RefusesCity line error × (of_city error ≡ halt))
 
 -- the next line is no line of a script where the run stands, and that is told of it
 abbrev pub IsRefused : Option World → List ℕ → Halt → Type 0
@@ -58,14 +64,14 @@ IsRefused (Some w) line halt = IsNoEvent w.kinds line × IsToldOf w.kinds line h
 
 -- the rest begins with a line that is refused so, and that was taken
 abbrev pub BeginsRefused : List (List ℕ) → Option World → List ℕ → List ℕ → Halt → Type 0
-BeginsRefused lines w rest left halt = (bad : List ℕ) × (rest ≡ ended bad ++ left) × MayFollow (length lines) (room_after lines) bad × IsRefused w bad halt
+BeginsRefused lines w rest left halt = (bad : List ℕ) × (rest ≡ ended bad ++ left) × LineFollows (length lines) (room_after lines) bad × IsRefused w bad halt
 
 -- ---- how the rest of the script begins
 
 -- what is wrong with the rest, how much of it was not taken, and which line that is
 abbrev pub IsFault : List (List ℕ) → Option World → List ℕ → List ℕ → ℕ → Why → Type 0
 IsFault lines w rest left line whys.Empty = (lines ≡ []) × (rest ≡ []) × (left ≡ []) × (line ≡ 1)
-IsFault lines w rest left line whys.Truncated = MayFollow (length lines) (room_after lines) rest × (rest ≢ []) × (left ≡ []) × (line ≡ length lines + 1)
+IsFault lines w rest left line whys.Truncated = IsWithinLimits (length lines) (room_after lines) rest × (rest ≢ []) × (left ≡ []) × (line ≡ length lines + 1)
 IsFault lines w rest left line whys.NotJson = BeginsRefused lines w rest left (halts.BadLine whys.NotJson) × (line ≡ length lines + 1)
 IsFault lines w rest left line whys.Shape = BeginsRefused lines w rest left (halts.BadLine whys.Shape) × (line ≡ length lines + 1)
 IsFault lines w rest left line whys.Name = BeginsRefused lines w rest left (halts.BadLine whys.Name) × (line ≡ length lines + 1)
@@ -74,14 +80,15 @@ IsFault lines w rest left line whys.Change = BeginsRefused lines w rest left (ha
 
 -- the bytes that were taken pass that limit: of a line, of the script, or of the city
 abbrev pub IsPast : List (List ℕ) → Option World → List ℕ → List ℕ → Which → ℕ → Type 0
-IsPast lines w rest left which count = ((front : List ℕ) × (rest ≡ front ++ left) × Passes (length lines) (room_after lines) front which count)
+IsPast lines w rest left which count = ((front : List ℕ) × (rest ≡ front ++ left) × PassesLimit (length lines) (room_after lines) front which count)
     ⊎ BeginsRefused lines w rest left (halts.Limit which count)
 
--- a front of what the next line writes was written
-abbrev pub IsFront : Option World → List ℕ → List ℕ → Type 0
-IsFront None rest part = part ≡ []
-IsFront (Some w) rest part = (part ≡ [])
-    ⊎ ((line : List ℕ) × (more : List ℕ) × (event : Event) × (unwritten : List ℕ) × (rest ≡ ended line ++ more) × NoLf line × Says w.kinds line event × (flat_map ended (brings w event) ≡ part ++ unwritten))
+-- Nothing was written; or a front of what the next line writes, which is one of a script, was taken with its LF, and brings about only answers that are allowed.
+abbrev pub WritesFront : List (List ℕ) → Option World → List ℕ → List ℕ → List ℕ → Type 0
+WritesFront lines None rest left part = part ≡ []
+WritesFront lines (Some w) rest left part = (part ≡ [])
+    ⊎ ((line : List ℕ) × (event : Event) × (unwritten : List ℕ) × (rest ≡ ended line ++ left) × LineFollows (length lines) (room_after lines) line × LineSays w.kinds line event × BringsAllowed w event
+    × (out_lines (brings w event) ≡ part ++ unwritten))
 
 -- ---- the last line
 
@@ -98,8 +105,9 @@ last_out Memory = None
 -- the bytes of a line, if there is one
 abbrev pub line_bytes : Option Out → List ℕ
 line_bytes None = []
-line_bytes (Some out) = ended (out_text out)
+line_bytes (Some out) = out_line out
 
+-- the bytes of the last line, none where there is none
 abbrev pub last_line : Status → List ℕ
 last_line status = line_bytes (last_out status)
 
@@ -115,7 +123,7 @@ IsTold lines w rest left Memory = ⊥
 
 -- a front of what comes next was written: of the next line's lines, or of a last line
 abbrev pub IsStopped : List (List ℕ) → Option World → List ℕ → List ℕ → List ℕ → Type 0
-IsStopped lines w rest left part = IsFront w rest part
+IsStopped lines w rest left part = WritesFront lines w rest left part
     ⊎ ((status : Status) × (unwritten : List ℕ) × IsTold lines w rest left status × (last_line status ≡ part ++ unwritten))
 
 -- ---- the play
@@ -126,11 +134,11 @@ Ending lines w rest left part Done = (lines ≢ []) × (rest ≡ []) × (left �
 Ending lines w rest left part Usage = ⊥
 Ending lines w rest left part (BadScript line why) = IsTold lines w rest left (BadScript line why) × (part ≡ last_line (BadScript line why))
 Ending lines w rest left part (Limit which count) = IsTold lines w rest left (Limit which count) × (part ≡ last_line (Limit which count))
-Ending lines w rest left part ReadFault = (cut : List ℕ) × (rest ≡ cut ++ left) × NoLf cut × (part ≡ [])
+Ending lines w rest left part ReadFault = (cut : List ℕ) × (rest ≡ cut ++ left) × IsWithinLimits (length lines) (room_after lines) cut × (part ≡ [])
 Ending lines w rest left part WriteFault = IsStopped lines w rest left part
 Ending lines w rest left part Memory = IsStopped lines w rest left part
 
--- The script splits into lines that were done whole and a rest; what was written is what they write, and a part behind it.
+-- The script splits into lines that were done whole and a rest; what was written is what they write, and a part behind it. Each answer that they brought about is allowed.
 pub record Played (text left written : List ℕ) (status : Status) : Type 0 where
   pub lines : List (List ℕ)
   pub rest : List ℕ
@@ -140,6 +148,7 @@ pub record Played (text left written : List ℕ) (status : Status) : Type 0 wher
   pub text_is : text ≡ flat_map ended lines ++ rest
   pub are_lines : AreLines lines
   pub did : DoneSo lines done world
+  pub allowed : ScriptAllowed lines
   pub written_is : written ≡ done ++ part
   pub ending : Ending lines world rest left part status
 

@@ -2,16 +2,17 @@
 use Rattle.std.specs.Prelude.{◌≡◌, ◌≢◌, ℕ, ◌+◌, List, [], ◌++◌, ◌⊎◌, length, Option, Some, None, Result, Ok, Err}
 use Rattle.std.specs.List.{flat_map}
 use Rattle.std.specs.Io.KnownBytes.{Appends}
+use Rattle.iris_base.specs.declared.limits.TheConstants.{MAX_SCRIPT_BYTES}
 use Rattle.iris_cli.specs.declared.halt.Halt.{Halt}
 use Rattle.iris_cli.specs.declared.halt.Halt.TheVariants.{ReadFault, WriteFault, BadLine, Limit, Memory}
 use Rattle.iris_cli.specs.declared.status.Status.{Status}
 use Rattle.iris_cli.specs.declared.status.Status.TheVariants as statuses
 use Rattle.iris_cli.specs.declared.event.Event.{Event}
-use Rattle.iris_cli.specs.Lines.{NoLf, ended}
-use Rattle.iris_cli.specs.Says.{Says, IsNoEvent, IsToldOf}
-use Rattle.iris_cli.specs.Run.{World, brings, after}
-use Rattle.iris_cli.specs.Taken.{most_bytes}
-use Rattle.iris_cli.specs.Played.{AreLines, DoneSo, IsRefusedCity, IsFront, IsFault, IsPast, last_line}
+use Rattle.iris_cli.specs.Lines.{ended}
+use Rattle.iris_cli.specs.LineSays.{LineSays, IsNoEvent, IsToldOf}
+use Rattle.iris_cli.specs.Run.{World, out_lines, brings, after}
+use Rattle.iris_cli.specs.Taken.{IsWithinLimits}
+use Rattle.iris_cli.specs.Played.{room_after, AreLines, DoneSo, IsRefusedCity, WritesFront, IsFault, IsPast, last_line}
 
 -- a front of the bytes was added
 abbrev pub IsPartOf : Option (List ℕ) → Option (List ℕ) → List ℕ → Type 0
@@ -30,11 +31,11 @@ RefusesCityLine line WriteFault = ⊥
 -- a front of what the line brings about was added
 abbrev pub AddsFront : World → List ℕ → Option (List ℕ) → Option (List ℕ) → Type 0
 AddsFront w line old new = Appends old new []
-    ⊎ ((event : Event) × Says w.kinds line event × IsPartOf old new (flat_map ended (brings w event)))
+    ⊎ ((event : Event) × LineSays w.kinds line event × IsPartOf old new (out_lines (brings w event)))
 
 -- the line was done, or why not
 abbrev pub Stepped : World → World → List ℕ → Option (List ℕ) → Option (List ℕ) → Result (Unit {0}) Halt → Type 0
-Stepped w next line old new (Ok u) = (event : Event) × Says w.kinds line event × (next ≡ after w event) × Appends old new (flat_map ended (brings w event))
+Stepped w next line old new (Ok u) = (event : Event) × LineSays w.kinds line event × (next ≡ after w event) × Appends old new (out_lines (brings w event))
 Stepped w next line old new (Err (BadLine why)) = IsNoEvent w.kinds line × IsToldOf w.kinds line (BadLine why) × Appends old new []
 Stepped w next line old new (Err (Limit which count)) = ⊥
 Stepped w next line old new (Err WriteFault) = AddsFront w line old new
@@ -43,21 +44,21 @@ Stepped w next line old new (Err ReadFault) = ⊥
 
 -- ---- the lines so far
 
--- so many lines were done, the source has the rest, and the script may have `room` bytes more
+-- so many lines were done as the reading of the script says, the source has the rest, and the script may have `room` bytes more
 abbrev pub IsSoFar : Option (List ℕ) → Option (List ℕ) → Option (List ℕ) → Option (List ℕ) → ℕ → ℕ → Option World → Type 0
 IsSoFar None now old new number room w = Unit {0}
 IsSoFar (Some text) None old new number room w = ⊥
 IsSoFar (Some text) (Some rest) old new number room w = (lines : List (List ℕ)) × (done : List ℕ) × (text ≡ flat_map ended lines ++ rest) × AreLines lines × DoneSo lines done w × Appends old new done
-    × (number ≡ length lines) × (room + length (flat_map ended lines) ≡ most_bytes)
+    × (number ≡ length lines) × (room + length (flat_map ended lines) ≡ MAX_SCRIPT_BYTES)
 
 -- what is so of the rest of the script where its lines were done up to this end
 abbrev pub Halts : List (List ℕ) → Option World → List ℕ → List ℕ → List ℕ → ℕ → Result (Unit {0}) Halt → Type 0
 Halts lines w rest left part number (Ok u) = (lines ≢ []) × (rest ≡ []) × (left ≡ []) × (part ≡ [])
 Halts lines w rest left part number (Err (BadLine why)) = IsFault lines w rest left number why × (part ≡ [])
 Halts lines w rest left part number (Err (Limit which count)) = IsPast lines w rest left which count × (part ≡ [])
-Halts lines w rest left part number (Err ReadFault) = (cut : List ℕ) × (rest ≡ cut ++ left) × NoLf cut × (part ≡ [])
-Halts lines w rest left part number (Err WriteFault) = IsFront w rest part
-Halts lines w rest left part number (Err Memory) = IsFront w rest part
+Halts lines w rest left part number (Err ReadFault) = (cut : List ℕ) × (rest ≡ cut ++ left) × IsWithinLimits (length lines) (room_after lines) cut × (part ≡ [])
+Halts lines w rest left part number (Err WriteFault) = WritesFront lines w rest left part
+Halts lines w rest left part number (Err Memory) = WritesFront lines w rest left part
 
 -- the script was run up to this end
 abbrev pub RanTo : Option (List ℕ) → Option (List ℕ) → Option (List ℕ) → Option (List ℕ) → ℕ → Result (Unit {0}) Halt → Type 0
@@ -77,7 +78,7 @@ status_of number (Err ReadFault) = statuses.ReadFault
 status_of number (Err WriteFault) = statuses.WriteFault
 status_of number (Err Memory) = statuses.Memory
 
--- the last line of the status was added, if it has one; or a front of it, by a fault of the sink or for want of memory
+-- the last line of the status was added, if it has one; or a front of it, where the sink failed or there was no memory
 abbrev pub Closes : Option (List ℕ) → Option (List ℕ) → Status → Status → Type 0
 Closes old new told result = ((result ≡ told) × Appends old new (last_line told))
     ⊎ (((result ≡ statuses.WriteFault) ⊎ (result ≡ statuses.Memory)) × IsPartOf old new (last_line told))

@@ -1,6 +1,6 @@
 //! What the lines of a script after the first say.
 ghost use Rattle.std.specs.Prelude.{◌≡◌, IfOk, IfErr};
-ghost use Rattle.iris_cli.specs.Says.{Says, RefusesEvent};
+ghost use Rattle.iris_cli.specs.LineSays.{LineSays, RefusesEvent};
 
 use crate::halt::Halt;
 use iris_json::{Line, read_line};
@@ -8,9 +8,9 @@ use iris_tree::{Change, Kind, Name, Sequence};
 use iris_xpath::{Query, parse};
 use std::alloc::Global;
 
-/// An update of a node.
+/// An update of a node, as a line asks for it.
 #[derive(Debug, Drop)]
-pub struct Update {
+pub struct NodeUpdate {
     pub name: Name,
     /// Greater than that of each update of the node before it, or it is old.
     pub no: u64,
@@ -22,7 +22,7 @@ pub struct Update {
 #[derive(Debug, Drop)]
 pub enum Sent {
     Query { query: Query },
-    Update { update: Update },
+    Update { update: NodeUpdate },
 }
 
 /// What a line after the first says.
@@ -41,7 +41,7 @@ pub enum Event {
 impl Event {
     /// What a line says, in a city with nodes of these kinds.
     pub fn read(alloc: Global, kinds: &[Kind], line: &[u8]) -> Result<Event, Halt>
-        ensures says { IfOk result (λ event. Says kinds.now line.now event) }
+        ensures says { IfOk result (λ event. LineSays kinds.now line.now event) }
         ensures refused { IfErr result (RefusesEvent kinds.now line.now) }
     {
         Ok(match read_line(alloc, line)? {
@@ -52,7 +52,7 @@ impl Event {
                 }
             }
             Line::Update { name, no, changes } => {
-                let update = Update { name, no, changes };
+                let update = NodeUpdate { name, no, changes };
                 Event::Post {
                     sent: Sent::Update { update },
                 }

@@ -1,11 +1,9 @@
 //! Why the play of a script goes no further.
 ghost use Rattle.std.specs.Prelude.{◌≡◌};
-ghost use Rattle.iris_cli.specs.Halt.{why_of};
+ghost use Rattle.iris_cli.specs.Halt.{of_source, of_sink, why_of};
 
-use crate::sink::SinkError;
-use crate::source::SourceError;
 use iris_json::{CityError, LineError, LineWhy, Which, Why};
-use iris_tree::Memory;
+use iris_tree::{Fault, Memory};
 use iris_xpath::QueryError;
 use std::alloc::{AllocError, AllocFailed};
 
@@ -57,30 +55,24 @@ impl<T: Drop> From<AllocFailed<T>> for Halt {
     }
 }
 
-impl From<SourceError> for Halt {
-    ghost use Rattle.std.specs.Prelude.{◌≡◌};
-    ghost use Rattle.iris_cli.specs.Halt.{of_source};
-
-    ghost from_gives = { λ error halt. halt ≡ of_source error };
-
-    fn from(error: SourceError) -> Halt {
-        match error {
-            SourceError::Failed => Halt::ReadFault,
-            SourceError::Memory => Halt::Memory,
+impl Halt {
+    /// What the fault of a source tells.
+    pub fn of_source(fault: Fault) -> Halt
+        ensures { result ≡ of_source fault }
+    {
+        match fault {
+            Fault::Failed => Halt::ReadFault,
+            Fault::Memory => Halt::Memory,
         }
     }
-}
 
-impl From<SinkError> for Halt {
-    ghost use Rattle.std.specs.Prelude.{◌≡◌};
-    ghost use Rattle.iris_cli.specs.Halt.{of_sink};
-
-    ghost from_gives = { λ error halt. halt ≡ of_sink error };
-
-    fn from(error: SinkError) -> Halt {
-        match error {
-            SinkError::Failed => Halt::WriteFault,
-            SinkError::Memory => Halt::Memory,
+    /// What the fault of a sink tells.
+    pub fn of_sink(fault: Fault) -> Halt
+        ensures { result ≡ of_sink fault }
+    {
+        match fault {
+            Fault::Failed => Halt::WriteFault,
+            Fault::Memory => Halt::Memory,
         }
     }
 }
@@ -101,7 +93,7 @@ impl From<CityError> for Halt {
     }
 }
 
-// What a last line tells of a line that is none.
+// What the last line tells of a line that is not one of a script.
 fn why_of(why: LineWhy) -> Why
     ensures { result ≡ why_of why }
 {

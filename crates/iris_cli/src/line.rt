@@ -1,11 +1,11 @@
-//! Bytes and lines of a source. A line ends in an LF, the byte 10.
+//! The lines of a source. A line ends in an LF.
 
-ghost use Rattle.std.specs.Prelude.{◌≡◌, ℕ, ◌<◌, ◌≤◌, ◌^◌, List, IfOk, IfErr, IsErrOf};
-ghost use Rattle.std.specs.Io.KnownBytes.{Consumes};
-ghost use Rattle.iris_cli.specs.Outside.{HasCause, TakesByte};
-ghost use Rattle.iris_cli.specs.Lines.{Took, TookCut};
+ghost use Rattle.std.specs.Prelude.{◌<◌, ◌^◌};
+ghost use Rattle.iris_base.specs.Outside.{HasCause};
+ghost use Rattle.iris_cli.specs.Lines.{TakesLine};
 
-use crate::source::{Source, SourceError};
+use crate::source::{LinePart, Source};
+use iris_tree::Fault;
 
 /// What the next line of a source is.
 #[derive(Clone, Copy, Debug, PartialEq, Eq)]
@@ -20,49 +20,25 @@ pub(crate) enum NextLine {
     Long,
 }
 
-/// Takes the next byte, or answers `None` at the end.
-pub(crate) fn next_byte<S: Source>(source: &mut S) -> Result<Option<u8>, SourceError>
-    ensures bytes { TakesByte (S.left source.old) (S.left source.new) result }
-    ensures cause { HasCause SourceError.Failed (S.faults source.old) (S.faults source.new) result }
-{
-    let mut room = [0u8; 1];
-    let count = source.take(&mut room)?;
-    if count == 0 {
-        Ok(None)
-    } else {
-        Ok(Some(room[0]))
-    }
-}
-
-/// Reads the next line, of at most `limit` bytes, into `line`, whose bytes of before are dropped.
-/// Nothing after the line's LF is taken. Where the source failed, `line` has what was taken.
-pub(crate) fn next_line<S: Source>(
+/// Takes the next line, of at most `limit` bytes without its LF, into `line`, whose bytes of before
+/// are dropped. Nothing behind its LF is taken, and of a longer line `limit + 1` bytes. Where the
+/// source failed, `line` has what was taken.
+pub(crate) fn take_line<S: Source>(
     source: &mut S,
     line: &mut Vec<u8>,
     limit: usize,
-) -> Result<NextLine, SourceError>
+) -> Result<NextLine, Fault>
     requires { limit < 2 ^ 32 }
-    ensures took { IfOk result (λ next. Took limit (S.left source.old) (S.left source.new) line.new.items next) }
-    ensures failed { IsErrOf result SourceError.Failed → Consumes (S.left source.old) (S.left source.new) line.new.items }
-    ensures cut { IfErr result (λ _. TookCut (S.left source.old) (S.left source.new)) }
-    ensures cause { HasCause SourceError.Failed (S.faults source.old) (S.faults source.new) result }
+    ensures took { TakesLine limit (S.left source.old) (S.left source.new) line.new.items result }
+    ensures cause { HasCause Fault.Failed (S.faults source.old) (S.faults source.new) result }
 {
     line.clear();
-    'bytes: while line.len() <= limit {
-        match next_byte(source)? {
-            None => {
-                return Ok(if line.is_empty() {
-                    NextLine::End
-                } else {
-                    NextLine::Cut
-                });
-            }
-            Some(b'\n') => return Ok(NextLine::Whole),
-            Some(byte) => {
-                if line.push(byte).is_err() {
-                    return Err(SourceError::Memory);
-                }
-            }
+    'parts: while line.len() <= limit {
+        match source.take_until_lf(line, limit + 1 - line.len())? {
+            LinePart::More => {}
+            LinePart::Last => return Ok(NextLine::Whole),
+            LinePart::End if line.is_empty() => return Ok(NextLine::End),
+            LinePart::End => return Ok(NextLine::Cut),
         }
     }
     Ok(NextLine::Long)

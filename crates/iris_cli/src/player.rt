@@ -1,9 +1,8 @@
 //! The play of a script.
-ghost use Rattle.std.specs.Prelude.{◌≡◌, ◌↔◌, ℕ, ◌<◌, ◌≤◌, ◌⊎◌, List, IsTrue};
-ghost use Rattle.iris_cli.specs.Outside.{HasCause};
+ghost use Rattle.std.specs.Prelude.{◌≡◌, ◌↔◌, ◌<◌, ◌≤◌, ◌⊎◌, IsTrue};
+ghost use Rattle.iris_base.specs.declared.limits.TheConstants.{MAX_SCRIPT_BYTES};
+ghost use Rattle.iris_base.specs.Outside.{HasCause};
 ghost use Rattle.iris_cli.specs.Halt.{IsPlay};
-ghost use Rattle.iris_cli.specs.Run.{World, Starts};
-ghost use Rattle.iris_cli.specs.Allowed.{AnswersAllowed};
 ghost use Rattle.iris_cli.specs.Played.{PlaysOn};
 ghost use Rattle.iris_cli.specs.Stepped.{RanTo, status_of, Closes};
 
@@ -34,7 +33,7 @@ fn run<S: Source, K: Sink>(
     sink: &mut K,
 ) -> Result<(), Halt>
     requires unread { script.old.number ≡ 0 }
-    requires whole { script.old.left ≡ 268435456 }
+    requires whole { script.old.room ≡ MAX_SCRIPT_BYTES }
     ensures ran { RanTo (S.left source.old) (S.left source.new) (K.held sink.old) (K.held sink.new) script.new.number result }
     ensures read { HasCause Halt.ReadFault (S.faults source.old) (S.faults source.new) result }
     ensures write { HasCause Halt.WriteFault (K.faults sink.old) (K.faults sink.new) result }
@@ -95,7 +94,6 @@ pub fn play<S: Source, K: Sink>(
     ensures usage { (result ≡ Status.Usage) ↔ (IsPlay words.now → ⊥) }
     ensures untouched { result ≡ Status.Usage → (source.new ≡ source.old) × (sink.new ≡ sink.old) }
     ensures played { IsPlay words.now → PlaysOn (S.left source.old) (S.left source.new) (K.held sink.old) (K.held sink.new) result }
-    ensures allowed { (city : List ℕ) (lines : List (List ℕ)) (w : World) → Starts city w → AnswersAllowed w lines }
     ensures read { result ≡ Status.ReadFault → S.faults source.old < S.faults source.new }
     ensures write { result ≡ Status.WriteFault → K.faults sink.old < K.faults sink.new }
 {

@@ -1,23 +1,16 @@
 //! A script, line by line.
 ghost use Rattle.std.specs.Prelude.{◌≡◌, ◌+◌, ◌≤◌};
-ghost use Rattle.iris_cli.specs.Outside.{HasCause};
-ghost use Rattle.iris_cli.specs.Taken.{TakesNext, most_of};
+ghost use Rattle.iris_base.specs.declared.limits.TheConstants.{MAX_LINES, MAX_SCRIPT_BYTES};
+ghost use Rattle.iris_base.specs.Outside.{HasCause};
+ghost use Rattle.iris_cli.specs.Taken.{max_line_bytes, TakesNext};
 
 use crate::halt::Halt;
-use crate::line::{NextLine, next_byte, next_line};
+use crate::line::{NextLine, take_line};
 use crate::source::Source;
 use iris_json::{Which, Why};
+use iris_tree::{MAX_CITY_BYTES, MAX_LINE_BYTES, MAX_LINES, MAX_SCRIPT_BYTES};
 use std::alloc::Global;
-
-// The greatest number of bytes of a script, of its city line, and of another line, without their LF.
-const MOST_BYTES: usize = 268_435_456;
-
-const MOST_OF_CITY: usize = 4_194_304;
-
-const MOST_OF_LINE: usize = 16_384;
-
-// The greatest number of lines.
-const MOST_LINES: u64 = 1_000_000;
+use std::marker::Model;
 
 /// A script that is read line by line.
 #[derive(Debug, Drop)]
@@ -25,14 +18,24 @@ pub struct Script {
     line: Vec<u8>,
     number: u64,
     // How many bytes it may still have.
-    left: usize,
-    ghost few: { number ≤ 1000000 },
-    ghost within: { left ≤ 268435456 },
+    room: usize,
+}
+
+impl Model for Script {
+    ghost use Rattle.std.specs.Prelude.{◌≤◌};
+    ghost use Rattle.iris_base.specs.declared.limits.TheConstants.{MAX_LINES, MAX_SCRIPT_BYTES};
+    ghost use Rattle.iris_cli.specs.Taken.{ScriptState};
+
+    ghost Value = { ScriptState };
+
+    ghost view = { λ s. record { line = s.line.items; number = s.number; room = s.room } };
+
+    ghost invariant = { λ s. (s.number ≤ MAX_LINES) × (s.room ≤ MAX_SCRIPT_BYTES) };
 }
 
 // That the limit of that number is passed by one.
 fn past(which: Which, most: u64) -> Halt
-    requires { most ≤ 268435456 }
+    requires { most ≤ MAX_SCRIPT_BYTES }
     ensures { result ≡ Halt.Limit which (most + 1) }
 {
     Halt::Limit {
@@ -41,22 +44,33 @@ fn past(which: Which, most: u64) -> Halt
     }
 }
 
+// The greatest number of bytes of the line after so many, without its LF.
+fn max_line_bytes(number: u64) -> usize
+    ensures { result ≡ max_line_bytes number }
+{
+    if number == 0 {
+        MAX_CITY_BYTES
+    } else {
+        MAX_LINE_BYTES
+    }
+}
+
 impl Script {
     /// A script of which nothing is read.
     pub fn new(alloc: Global) -> Script
         ensures number { result.number ≡ 0 }
-        ensures left { result.left ≡ 268435456 }
+        ensures room { result.room ≡ MAX_SCRIPT_BYTES }
     {
         Script {
             line: Vec::new(alloc),
             number: 0,
-            left: MOST_BYTES,
+            room: MAX_SCRIPT_BYTES,
         }
     }
 
     /// The present line, without its LF.
     pub fn line(&self) -> &[u8]
-        ensures { result.now ≡ self.now.line.items }
+        ensures { result.now ≡ self.now.line }
     {
         self.line.as_slice()
     }
@@ -68,43 +82,51 @@ impl Script {
         self.number
     }
 
-    // Reads the one byte more after which the script has too many lines.
+    // Takes the one byte after which the script has too many lines.
+    #[tactic(auto, using(crate::proofs::Taken::takes_past_script, crate::proofs::Taken::takes_past_lines))]
     fn next_past<S: Source>(&mut self, source: &mut S) -> Result<bool, Halt>
-        requires full { self.old.number ≡ 1000000 }
-        ensures took { TakesNext self.old.number self.old.left (S.left source.old) (S.left source.new) self.new.line.items self.new.number self.new.left result }
+        requires full { self.old.number ≡ MAX_LINES }
+        ensures took { TakesNext self.old (S.left source.old) (S.left source.new) self.new result }
         ensures cause { HasCause Halt.ReadFault (S.faults source.old) (S.faults source.new) result }
     {
-        match next_byte(source)? {
-            None => Ok(false),
-            Some(_) if self.left == 0 => Err(past(Which::Script, MOST_BYTES as u64)),
-            Some(_) => Err(past(Which::Lines, MOST_LINES)),
+        let next = match take_line(source, &mut self.line, 0) {
+            Ok(next) => next,
+            Err(fault) => return Err(Halt::of_source(fault)),
+        };
+        if next == NextLine::End {
+            return Ok(false);
         }
+        if self.room == 0 {
+            return Err(past(Which::Script, MAX_SCRIPT_BYTES as u64));
+        }
+        Err(past(Which::Lines, MAX_LINES))
     }
 
-    /// Reads the next line, and answers whether there is one.
+    /// Takes the next line, and answers whether there is one.
     pub fn next<S: Source>(&mut self, source: &mut S) -> Result<bool, Halt>
-        ensures took { TakesNext self.old.number self.old.left (S.left source.old) (S.left source.new) self.new.line.items self.new.number self.new.left result }
+        ensures took { TakesNext self.old (S.left source.old) (S.left source.new) self.new result }
         ensures cause { HasCause Halt.ReadFault (S.faults source.old) (S.faults source.new) result }
     {
-        if self.number == MOST_LINES {
+        if self.number == MAX_LINES {
             return self.next_past(source);
         }
         let first = self.number == 0;
-        let most = if first { MOST_OF_CITY } else { MOST_OF_LINE };
+        let most = max_line_bytes(self.number);
         self.number += 1;
-        match next_line(source, &mut self.line, most.min(self.left))? {
-            NextLine::Whole if self.line.len() < self.left => {
-                self.left -= self.line.len() + 1;
+        match take_line(source, &mut self.line, most.min(self.room)) {
+            Ok(NextLine::Whole) if self.line.len() < self.room => {
+                self.room -= self.line.len() + 1;
                 Ok(true)
             }
-            NextLine::Whole => Err(past(Which::Script, MOST_BYTES as u64)),
-            NextLine::End if first => Err(Halt::BadLine { why: Why::Empty }),
-            NextLine::End => Ok(false),
-            NextLine::Cut => Err(Halt::BadLine {
+            Ok(NextLine::Whole) => Err(past(Which::Script, MAX_SCRIPT_BYTES as u64)),
+            Ok(NextLine::End) if first => Err(Halt::BadLine { why: Why::Empty }),
+            Ok(NextLine::End) => Ok(false),
+            Ok(NextLine::Cut) => Err(Halt::BadLine {
                 why: Why::Truncated,
             }),
-            NextLine::Long if most <= self.left => Err(past(Which::Line, most as u64)),
-            NextLine::Long => Err(past(Which::Script, MOST_BYTES as u64)),
+            Ok(NextLine::Long) if most <= self.room => Err(past(Which::Line, most as u64)),
+            Ok(NextLine::Long) => Err(past(Which::Script, MAX_SCRIPT_BYTES as u64)),
+            Err(fault) => Err(Halt::of_source(fault)),
         }
     }
 }

@@ -1,12 +1,9 @@
 //! A city under a script: what is posted and not yet delivered, and what each line brings about.
-ghost use Rattle.std.specs.Prelude.{◌≡◌, ◌<◌, [], IfOk, IfErr, OnOk};
-ghost use Rattle.std.specs.List.{flat_map};
-ghost use Rattle.iris_json.specs.Out.{out_text};
-ghost use Rattle.iris_cli.specs.Outside.{HasCause, Puts};
-ghost use Rattle.iris_cli.specs.Halt.{IsOfWriting};
-ghost use Rattle.iris_cli.specs.Lines.{ended};
-ghost use Rattle.iris_cli.specs.Run.{all_delivered, after_all, post_out, after_post, brings, after, Starts};
-ghost use Rattle.iris_cli.specs.Sessions.{held_of, world_of};
+ghost use Rattle.std.specs.Prelude.{◌≡◌, [], IfOk, IfErr, OnOk};
+ghost use Rattle.iris_base.specs.Outside.{HasCause};
+ghost use Rattle.iris_cli.specs.Acts.{Acts, Writes};
+ghost use Rattle.iris_cli.specs.Run.{out_line, out_lines, all_delivered, after_all, post_out, after_post, Starts};
+ghost use Rattle.iris_cli.specs.Sessions.{world_of, HasNumbers};
 ghost use Rattle.iris_cli.specs.Stepped.{RefusesCityLine, Stepped};
 
 use crate::event::{Event, Sent};
@@ -44,14 +41,11 @@ pub struct Session {
 
 /// Writes a line of the run, with its LF.
 pub fn put<K: Sink>(alloc: Global, out: &Out, sink: &mut K) -> Result<(), Halt>
-    ensures bytes { Puts (K.held sink.old) (K.held sink.new) result (ended (out_text out.now)) }
-    ensures cause { HasCause Halt.WriteFault (K.faults sink.old) (K.faults sink.new) result }
-    ensures writes { IfErr result IsOfWriting }
+    ensures writes { Writes (K.held sink.old) (K.held sink.new) (K.faults sink.old) (K.faults sink.new) (out_line out.now) result }
 {
     let mut text = write_out(alloc, out)?;
     text.push(b'\n')?;
-    sink.put(&text)?;
-    Ok(())
+    sink.put(&text).map_err(Halt::of_sink)
 }
 
 // Delivers all that is posted, in its order, and writes the line of each.
@@ -61,11 +55,9 @@ fn deliver_all<K: Sink>(
     posted: &mut VecDeque<Posted>,
     sink: &mut K,
 ) -> Result<(), Halt>
-    ensures bytes { Puts (K.held sink.old) (K.held sink.new) result (flat_map ended (all_delivered (held_of site.old) posted.old.items)) }
-    ensures after { OnOk result (held_of site.new ≡ after_all (held_of site.old) posted.old.items) }
+    ensures writes { Writes (K.held sink.old) (K.held sink.new) (K.faults sink.old) (K.faults sink.new) (out_lines (all_delivered site.old posted.old.items)) result }
+    ensures after { OnOk result (site.new ≡ after_all site.old posted.old.items) }
     ensures none { OnOk result (posted.new.items ≡ []) }
-    ensures cause { HasCause Halt.WriteFault (K.faults sink.old) (K.faults sink.new) result }
-    ensures writes { IfErr result IsOfWriting }
 {
     'posts: while let Some(Posted { request, sent }) = posted.pop_front() {
         let out = site.deliver(alloc, request, sent)?;
@@ -101,8 +93,7 @@ impl Session {
 
     // Posts a query or an update, and tells the post; or tells that the update's node is none.
     fn post(&mut self, sent: Sent) -> Mem<Out>
-        requires posts { self.old.posts < 18446744073709551615 }
-        requires requests { self.old.requests < 18446744073709551615 }
+        requires numbers { HasNumbers (world_of self.old) }
         ensures told { IfOk result (λ out. out ≡ post_out (world_of self.old) sent) }
         ensures after { OnOk result (world_of self.new ≡ after_post (world_of self.old) sent) }
     {
@@ -124,12 +115,8 @@ impl Session {
     }
 
     fn put_post<K: Sink>(&mut self, alloc: Global, sent: Sent, sink: &mut K) -> Result<(), Halt>
-        requires posts { self.old.posts < 18446744073709551615 }
-        requires requests { self.old.requests < 18446744073709551615 }
-        ensures bytes { Puts (K.held sink.old) (K.held sink.new) result (flat_map ended (brings (world_of self.old) (Event.Post sent))) }
-        ensures after { OnOk result (world_of self.new ≡ after (world_of self.old) (Event.Post sent)) }
-        ensures cause { HasCause Halt.WriteFault (K.faults sink.old) (K.faults sink.new) result }
-        ensures writes { IfErr result IsOfWriting }
+        requires numbers { HasNumbers (world_of self.old) }
+        ensures acts { Acts (world_of self.old) (world_of self.new) (Event.Post sent) (K.held sink.old) (K.held sink.new) (K.faults sink.old) (K.faults sink.new) result }
     {
         let out = self.post(sent)?;
         put(alloc, &out, sink)
@@ -137,11 +124,8 @@ impl Session {
 
     // Answers a query at once, from today's document.
     fn audit<K: Sink>(&mut self, alloc: Global, query: &Query, sink: &mut K) -> Result<(), Halt>
-        requires requests { self.old.requests < 18446744073709551615 }
-        ensures bytes { Puts (K.held sink.old) (K.held sink.new) result (flat_map ended (brings (world_of self.old) (Event.Audit query.now))) }
-        ensures after { OnOk result (world_of self.new ≡ after (world_of self.old) (Event.Audit query.now)) }
-        ensures cause { HasCause Halt.WriteFault (K.faults sink.old) (K.faults sink.new) result }
-        ensures writes { IfErr result IsOfWriting }
+        requires numbers { HasNumbers (world_of self.old) }
+        ensures acts { Acts (world_of self.old) (world_of self.new) (Event.Audit query.now) (K.held sink.old) (K.held sink.new) (K.faults sink.old) (K.faults sink.new) result }
     {
         let out = self.site.audit(alloc, self.requests, query)?;
         self.requests += 1;
@@ -150,10 +134,7 @@ impl Session {
 
     // Puts the time forward, or tells that it would go back.
     fn advance<K: Sink>(&mut self, alloc: Global, at: u64, sink: &mut K) -> Result<(), Halt>
-        ensures bytes { Puts (K.held sink.old) (K.held sink.new) result (flat_map ended (brings (world_of self.old) (Event.Now at))) }
-        ensures after { OnOk result (world_of self.new ≡ after (world_of self.old) (Event.Now at)) }
-        ensures cause { HasCause Halt.WriteFault (K.faults sink.old) (K.faults sink.new) result }
-        ensures writes { IfErr result IsOfWriting }
+        ensures acts { Acts (world_of self.old) (world_of self.new) (Event.Now at) (K.held sink.old) (K.held sink.new) (K.faults sink.old) (K.faults sink.new) result }
     {
         if self.site.advance(at) {
             return Ok(());
@@ -164,10 +145,7 @@ impl Session {
 
     // Delivers all that is posted, in the order of posting.
     fn settle<K: Sink>(&mut self, alloc: Global, sink: &mut K) -> Result<(), Halt>
-        ensures bytes { Puts (K.held sink.old) (K.held sink.new) result (flat_map ended (brings (world_of self.old) Event.Settle)) }
-        ensures after { OnOk result (world_of self.new ≡ after (world_of self.old) Event.Settle) }
-        ensures cause { HasCause Halt.WriteFault (K.faults sink.old) (K.faults sink.new) result }
-        ensures writes { IfErr result IsOfWriting }
+        ensures acts { Acts (world_of self.old) (world_of self.new) Event.Settle (K.held sink.old) (K.held sink.new) (K.faults sink.old) (K.faults sink.new) result }
     {
         let settled = self.posted.len() as u64;
         deliver_all(alloc, &mut self.site, &mut self.posted, sink)?;
@@ -176,12 +154,8 @@ impl Session {
 
     // Does what a line says.
     fn act<K: Sink>(&mut self, alloc: Global, event: Event, sink: &mut K) -> Result<(), Halt>
-        requires posts { self.old.posts < 18446744073709551615 }
-        requires requests { self.old.requests < 18446744073709551615 }
-        ensures bytes { Puts (K.held sink.old) (K.held sink.new) result (flat_map ended (brings (world_of self.old) event)) }
-        ensures after { OnOk result (world_of self.new ≡ after (world_of self.old) event) }
-        ensures cause { HasCause Halt.WriteFault (K.faults sink.old) (K.faults sink.new) result }
-        ensures writes { IfErr result IsOfWriting }
+        requires numbers { HasNumbers (world_of self.old) }
+        ensures acts { Acts (world_of self.old) (world_of self.new) event (K.held sink.old) (K.held sink.new) (K.faults sink.old) (K.faults sink.new) result }
     {
         match event {
             Event::Post { sent } => self.put_post(alloc, sent, sink),
@@ -193,8 +167,7 @@ impl Session {
 
     /// Reads a line after the first and does what it says.
     pub fn run<K: Sink>(&mut self, alloc: Global, line: &[u8], sink: &mut K) -> Result<(), Halt>
-        requires posts { self.old.posts < 18446744073709551615 }
-        requires requests { self.old.requests < 18446744073709551615 }
+        requires numbers { HasNumbers (world_of self.old) }
         ensures stepped { Stepped (world_of self.old) (world_of self.new) line.now (K.held sink.old) (K.held sink.new) result }
         ensures cause { HasCause Halt.WriteFault (K.faults sink.old) (K.faults sink.new) result }
     {

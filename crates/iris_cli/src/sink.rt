@@ -4,39 +4,12 @@
 ghost use Rattle.std.specs.Prelude.{◌≡◌, ℕ, List, Some, ◌≤◌, ◌<◌, length, [], ◌∷◌, ◌++◌, IfOk};
 ghost use Rattle.std.specs.Io.KnownBytes.{WriteAppends};
 ghost use Rattle.std.specs.declared.option.Option.{Option};
-ghost use Rattle.iris_cli.specs.Outside.{HasCause, Puts};
+ghost use Rattle.iris_base.specs.Outside.{HasCause, Puts};
 
-use crate::TRIES;
-use iris_tree::Memory;
+use crate::fault::fail;
+use iris_tree::{Fault, MAX_TRIES};
 use std::alloc::Global;
-use std::error::Error;
-use std::fmt;
 use std::io::{ErrorKind, Write};
-
-/// Why a sink did not take all that it was given.
-#[derive(Clone, Copy, Debug, PartialEq, Eq)]
-pub enum SinkError {
-    /// The sink failed; its count of faults rose in this call.
-    Failed,
-    /// There was no memory, or the count of faults is at its greatest value.
-    Memory,
-}
-
-impl fmt::Display for SinkError {
-    ghost use Rattle.std.specs.Prelude.{Some};
-    ghost use Rattle.iris_cli.specs.Messages.{sink_message};
-
-    ghost output = { λ error. Some (sink_message error) };
-
-    fn fmt<W: fmt::Write>(&self, f: &mut fmt::Formatter<W>) -> fmt::Result {
-        match self {
-            SinkError::Failed => f.write_str("the sink failed"),
-            SinkError::Memory => fmt::Display::fmt(&Memory, f),
-        }
-    }
-}
-
-impl Error for SinkError {}
 
 /// Where bytes go to.
 pub trait Sink {
@@ -47,21 +20,9 @@ pub trait Sink {
     ghost faults: { Self → ℕ };
 
     /// Adds `bytes` at the end of what it holds; at an error, a part of them from the front.
-    fn put(&mut self, bytes: &[u8]) -> Result<(), SinkError>
+    fn put(&mut self, bytes: &[u8]) -> Result<(), Fault>
         ensures bytes { Puts (held self.old) (held self.new) result bytes.now }
-        ensures cause { HasCause SinkError.Failed (faults self.old) (faults self.new) result };
-}
-
-// Counts a fault, and answers the error of the call that failed.
-fn fault(faults: &mut u64) -> SinkError
-    ensures later { faults.old ≤ faults.new }
-    ensures failed { result ≡ SinkError.Failed → faults.old < faults.new }
-{
-    if *faults == u64::MAX {
-        return SinkError::Memory;
-    }
-    *faults += 1;
-    SinkError::Failed
+        ensures cause { HasCause Fault.Failed (faults self.old) (faults self.new) result };
 }
 
 /// Bytes that are kept in memory.
@@ -101,22 +62,22 @@ impl Sink for MemorySink {
 
     ghost faults = { λ s. s.faults };
 
-    fn put(&mut self, bytes: &[u8]) -> Result<(), SinkError> {
+    fn put(&mut self, bytes: &[u8]) -> Result<(), Fault> {
         let fails = self.fails.contains(&self.calls);
         self.calls = self.calls.saturating_add(1);
         let count = if fails { bytes.len() / 2 } else { bytes.len() };
         if self.bytes.extend_from_slice(&bytes[..count]).is_err() {
-            return Err(SinkError::Memory);
+            return Err(Fault::Memory);
         }
         if fails {
-            return Err(fault(&mut self.faults));
+            return Err(fail(&mut self.faults));
         }
         Ok(())
     }
 }
 
 /// A writer of the standard library, with no buffer before it. It holds what the writer holds,
-/// where that is known. A write that is interrupted is made again, up to 1,000 times in all, and
+/// where that is known. A write that is interrupted is made again, up to `MAX_TRIES` times in all, and
 /// one that takes none of the bytes is a fault.
 #[derive(Drop)]
 pub struct StdSink<W: Write + Drop> {
@@ -134,24 +95,24 @@ impl<W: Write + Drop> StdSink<W> {
     }
 
     // Writes some of `bytes`, at least one, from the front, and answers how many.
-    fn write_some(&mut self, bytes: &[u8]) -> Result<usize, SinkError>
+    fn write_some(&mut self, bytes: &[u8]) -> Result<usize, Fault>
         ensures some { IfOk result (λ count. 0 < count) }
         ensures bound { IfOk result (λ count. count ≤ length bytes.now) }
         ensures bytes { WriteAppends (W.contents self.old.writer) (W.contents self.new.writer) result bytes.now }
-        ensures cause { HasCause SinkError.Failed self.old.faults self.new.faults result }
+        ensures cause { HasCause Fault.Failed self.old.faults self.new.faults result }
     {
-        for _ in 0..TRIES {
+        for _ in 0..MAX_TRIES {
             match self.writer.write(bytes) {
-                Ok(0) => return Err(fault(&mut self.faults)),
+                Ok(0) => return Err(fail(&mut self.faults)),
                 Ok(count) => return Ok(count),
                 Err(error) if error.kind() == ErrorKind::Interrupted => {}
                 Err(error) if error.kind() == ErrorKind::OutOfMemory => {
-                    return Err(SinkError::Memory);
+                    return Err(Fault::Memory);
                 }
-                Err(_) => return Err(fault(&mut self.faults)),
+                Err(_) => return Err(fail(&mut self.faults)),
             }
         }
-        Err(fault(&mut self.faults))
+        Err(fail(&mut self.faults))
     }
 }
 
@@ -160,7 +121,7 @@ impl<W: Write + Drop> Sink for StdSink<W> {
 
     ghost faults = { λ s. s.faults };
 
-    fn put(&mut self, bytes: &[u8]) -> Result<(), SinkError> {
+    fn put(&mut self, bytes: &[u8]) -> Result<(), Fault> {
         let mut written = 0;
         while written < bytes.len() {
             written += self.write_some(&bytes[written..])?;

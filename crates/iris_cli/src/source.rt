@@ -1,46 +1,34 @@
 //! Sources of bytes that count their faults: one in memory, and one over a reader of the standard
 //! library.
 
-ghost use Rattle.std.specs.Prelude.{◌≡◌, ℕ, List, Some, None, drop, ◌≤◌, ◌<◌, ◌≢◌, length, [], ◌∷◌, ◌++◌, IfOk, IfErr};
+ghost use Rattle.std.specs.Prelude.{◌≡◌, ℕ, List, Some, None, false, take, drop, ◌≤◌, ◌<◌, ◌^◌, length, [], ◌∷◌, ◌++◌, IfOk, IfErr};
 ghost use Rattle.std.specs.Io.{ReadsAtMost};
 ghost use Rattle.std.specs.Io.KnownBytes.{ReadConsumes};
 ghost use Rattle.std.specs.IoError.{error_kind};
 ghost use Rattle.std.specs.declared.option.Option.{Option};
-ghost use Rattle.iris_cli.specs.Outside.{HasCause};
+ghost use Rattle.iris_base.specs.Outside.{HasCause};
+ghost use Rattle.iris_cli.specs.Lines.{TakesPart, NoLf};
 
-use crate::TRIES;
-use iris_tree::Memory;
+use memchr::memchr;
+use crate::fault::fail;
+use iris_tree::{Fault, MAX_TRIES};
 use std::alloc::Global;
-use std::error::Error;
-use std::io::{BufReader, ErrorKind, Read};
-use std::{fmt, io};
+use std::io;
+use std::io::{BufRead, BufReader, ErrorKind, Read};
 
-/// Why a source gave nothing.
+/// What was taken of a line.
 #[derive(Clone, Copy, Debug, PartialEq, Eq)]
-pub enum SourceError {
-    /// The source failed; its count of faults rose in this call.
-    Failed,
-    /// There was no memory, or the count of faults is at its greatest value.
-    Memory,
+pub enum LinePart {
+    /// Some of it, and not its LF.
+    More,
+    /// The rest of it, with its LF.
+    Last,
+    /// Nothing: the text is at its end.
+    End,
 }
 
-impl fmt::Display for SourceError {
-    ghost use Rattle.std.specs.Prelude.{Some};
-    ghost use Rattle.iris_cli.specs.Messages.{source_message};
-
-    ghost output = { λ error. Some (source_message error) };
-
-    fn fmt<W: fmt::Write>(&self, f: &mut fmt::Formatter<W>) -> fmt::Result {
-        match self {
-            SourceError::Failed => f.write_str("the source failed"),
-            SourceError::Memory => fmt::Display::fmt(&Memory, f),
-        }
-    }
-}
-
-impl Error for SourceError {}
-
-/// Where bytes come from.
+/// Where bytes come from. Only `take` has to be written; a source behind a buffer writes
+/// `take_until_lf` too, since that takes one byte a call else.
 pub trait Source {
     /// What is left to take, where the source tells it.
     ghost left: { Self → Option (List ℕ) };
@@ -51,22 +39,31 @@ pub trait Source {
     /// Takes bytes from the front of what is left into the front of `room`, and answers how many,
     /// at most the room's length; 0 into a room that is not empty is the end. After an error what
     /// is left is as before.
-    fn take(&mut self, room: &mut [u8]) -> Result<usize, SourceError>
+    fn take(&mut self, room: &mut [u8]) -> Result<usize, Fault>
         ensures bound { ReadsAtMost result room.new }
         ensures bytes { ReadConsumes (left self.old) (left self.new) result room.new }
-        ensures cause { HasCause SourceError.Failed (faults self.old) (faults self.new) result };
-}
+        ensures cause { HasCause Fault.Failed (faults self.old) (faults self.new) result };
 
-// Counts a fault, and answers the error of the call that failed.
-fn fault(faults: &mut u64) -> SourceError
-    ensures later { faults.old ≤ faults.new }
-    ensures failed { result ≡ SourceError.Failed → faults.old < faults.new }
-{
-    if *faults == u64::MAX {
-        return SourceError::Memory;
+    /// Takes bytes of a line, at least one and at most `most`, and puts them behind those of `line`.
+    /// They end before an LF, which is taken and not put there. After `Failed` nothing was taken.
+    fn take_until_lf(&mut self, line: &mut Vec<u8>, most: usize) -> Result<LinePart, Fault>
+        requires { 0 < most }
+        ensures took { TakesPart most (left self.old) (left self.new) line.old.items line.new.items result }
+        ensures cause { HasCause Fault.Failed (faults self.old) (faults self.new) result }
+    {
+        let mut room = [0u8; 1];
+        if self.take(&mut room)? == 0 {
+            return Ok(LinePart::End);
+        }
+        let [byte] = room;
+        if byte == b'\n' {
+            return Ok(LinePart::Last);
+        }
+        if line.push(byte).is_err() {
+            return Err(Fault::Memory);
+        }
+        Ok(LinePart::More)
     }
-    *faults += 1;
-    SourceError::Failed
 }
 
 /// Bytes in memory, of which each call gives at most `step`.
@@ -105,11 +102,11 @@ impl Source for MemorySource {
 
     ghost faults = { λ s. s.faults };
 
-    fn take(&mut self, room: &mut [u8]) -> Result<usize, SourceError> {
+    fn take(&mut self, room: &mut [u8]) -> Result<usize, Fault> {
         let fails = self.fails.contains(&self.calls);
         self.calls = self.calls.saturating_add(1);
         if fails {
-            return Err(fault(&mut self.faults));
+            return Err(fail(&mut self.faults));
         }
         let rest = self.bytes.len() - self.position;
         let count = rest.min(room.len()).min(self.step);
@@ -120,12 +117,24 @@ impl Source for MemorySource {
     }
 }
 
-/// A reader of the standard library behind a buffer, so that a room of one byte costs little. It
-/// does not tell what is left. A read that is interrupted is made again, up to 1,000 times in all.
+/// A reader of the standard library behind a buffer. It
+/// does not tell what is left. A read that is interrupted is made again, up to `MAX_TRIES` times in all.
 #[derive(Drop)]
 pub struct StdSource<R: Read + Drop> {
     reader: BufReader<R>,
     faults: u64,
+}
+
+// How many of these bytes are before the first LF, and whether there is one.
+fn before_lf(bytes: &[u8]) -> (usize, bool)
+    ensures within { result.0 ≤ length bytes.now }
+    ensures no_lf { NoLf (take result.0 bytes.now) }
+    ensures some { 0 < length bytes.now → result.1 ≡ false → 0 < result.0 }
+{
+    match memchr(b'\n', bytes) {
+        Some(count) => (count, true),
+        None => (bytes.len(), false),
+    }
 }
 
 impl<R: Read + Drop> StdSource<R> {
@@ -145,17 +154,43 @@ impl<R: Read + Drop> Source for StdSource<R> {
 
     ghost faults = { λ s. s.faults };
 
-    fn take(&mut self, room: &mut [u8]) -> Result<usize, SourceError> {
-        for _ in 0..TRIES {
+    fn take(&mut self, room: &mut [u8]) -> Result<usize, Fault> {
+        for _ in 0..MAX_TRIES {
             match self.reader.read(room) {
                 Ok(count) => return Ok(count),
                 Err(error) if error.kind() == ErrorKind::Interrupted => {}
                 Err(error) if error.kind() == ErrorKind::OutOfMemory => {
-                    return Err(SourceError::Memory);
+                    return Err(Fault::Memory);
                 }
-                Err(_) => return Err(fault(&mut self.faults)),
+                Err(_) => return Err(fail(&mut self.faults)),
             }
         }
-        Err(fault(&mut self.faults))
+        Err(fail(&mut self.faults))
+    }
+
+    fn take_until_lf(&mut self, line: &mut Vec<u8>, most: usize) -> Result<LinePart, Fault> {
+        for _ in 0..MAX_TRIES {
+            match self.reader.fill_buf() {
+                Ok([]) => return Ok(LinePart::End),
+                Ok(bytes) => {
+                    let (count, has_lf) = before_lf(&bytes[..bytes.len().min(most)]);
+                    if line.extend_from_slice(&bytes[..count]).is_err() {
+                        return Err(Fault::Memory);
+                    }
+                    if has_lf {
+                        self.reader.consume(count + 1);
+                        return Ok(LinePart::Last);
+                    }
+                    self.reader.consume(count);
+                    return Ok(LinePart::More);
+                }
+                Err(error) if error.kind() == ErrorKind::Interrupted => {}
+                Err(error) if error.kind() == ErrorKind::OutOfMemory => {
+                    return Err(Fault::Memory);
+                }
+                Err(_) => return Err(fail(&mut self.faults)),
+            }
+        }
+        Err(fail(&mut self.faults))
     }
 }

@@ -1,7 +1,6 @@
 use Rattle.std.proofs.Common.{ap, ◌∙◌, subst}
 use Rattle.iris_cli.specs.declared.status.Status.{Status}
 use Rattle.iris_cli.specs.Stepped.{status_of, Closes}
-use Rattle.iris_cli.proofs.Allowed.{script_allowed}
 use Rattle.iris_cli.proofs.Closing.{plays_on}
 use Rattle.iris_cli.proofs.player.play.Goals as goal
 
@@ -12,9 +11,3 @@ returns-clause-played g c =
     let told = c.status_of.ensures ∙ ap (λ number. status_of number c.run-ran.result) c.number.ensures in
     let closes = subst (λ (status : Status). Closes mid new status c.end.result) told c.end.ensures.closes in
     λ asked. plays_on _ _ _ mid new c.run-ran.new.script.number c.run-ran.result c.end.result c.run-ran.ensures.ran closes
-
-pub returns-then-not-asks_to_play-clause-allowed : goal.returns-then-not-asks_to_play-clause-allowed
-returns-then-not-asks_to_play-clause-allowed g c = script_allowed
-
-pub returns-clause-allowed : goal.returns-clause-allowed
-returns-clause-allowed g c = script_allowed

@@ -10,22 +10,22 @@ pub returns-in_err-next-clause-ran : goal.returns-in_err-next-clause-ran
 returns-in_err-next-clause-ran g c =
     let p = err_from_is_err_and c.from_residual.result c.from_residual.ensures.1 in
     let script = c.args.script.now in
-    let so = so_start (g.S.Source.left c.args.source.now) (g.K.Sink.held c.args.sink.now) script.number script.left c.requires.unread c.requires.whole in
+    let so = so_start (g.S.Source.left c.args.source.now) (g.K.Sink.held c.args.sink.now) script.number script.room c.requires.unread c.requires.whole in
     let took = c.in_err-next.ensures.took in
-    rw (p.1, p.2) (next_halts _ _ _ _ _ script.number script.left c.next.new.self.number c.next.new.self.left None c.next.new.self.line.items _ so took)
+    rw (p.1, p.2) (next_halts _ _ _ _ _ script c.next.new.self None _ so took)
 
 pub returns-in_err-session-clause-ran : goal.returns-in_err-session-clause-ran
 returns-in_err-session-clause-ran g c =
     let p = err_from_is_err_and c.from_residual-in_err-session.result c.from_residual-in_err-session.ensures.1 in
-    let so = so_start (g.S.Source.left c.args.source.now) (g.K.Sink.held c.args.sink.now) c.args.script.now.number c.args.script.now.left c.requires.unread c.requires.whole in
-    let t = first_taken _ _ _ _ _ _ _ c.in_ok-next.field-0 c.requires.unread c.in_ok-next.ensures.took in
+    let so = so_start (g.S.Source.left c.args.source.now) (g.K.Sink.held c.args.sink.now) c.args.script.now.number c.args.script.now.room c.requires.unread c.requires.whole in
+    let t = first_taken _ _ _ _ c.in_ok-next.field-0 c.requires.unread c.in_ok-next.ensures.took in
     rw (p.1, p.2) (start_halts _ _ _ _ _ _ _ _ _ _ so t.0 t.1 t.2 (rw c.line.ensures at c.in_err-session.ensures.refused))
 
 pub lines-init : goal.lines-init
 lines-init g c =
-    let so = so_start (g.S.Source.left c.args.source.now) (g.K.Sink.held c.args.sink.now) c.args.script.now.number c.args.script.now.left c.requires.unread c.requires.whole in
-    let t = first_taken _ _ _ _ _ _ _ c.in_ok-next.field-0 c.requires.unread c.in_ok-next.ensures.took in
-    let line = c.next.new.self.line.items in
+    let so = so_start (g.S.Source.left c.args.source.now) (g.K.Sink.held c.args.sink.now) c.args.script.now.number c.args.script.now.room c.requires.unread c.requires.whole in
+    let t = first_taken _ _ _ _ c.in_ok-next.field-0 c.requires.unread c.in_ok-next.ensures.took in
+    let line = c.next.new.self.line in
     let starts = c.in_ok-session.ensures.starts in
     let requests = starts.no_requests in
     let posts = starts.no_posts in
@@ -42,12 +42,12 @@ returns-in_err-next-2-clause-ran g c =
     let p = err_from_is_err_and c.from_residual-in_err-next-2.result c.from_residual-in_err-next-2.ensures.1 in
     let next = c.next-in-lines.new.self in
     let took = c.in_err-next-2.ensures.took in
-    rw (p.1, p.2) (next_halts _ _ _ _ _ c.lines.script.number c.lines.script.left next.number next.left (Some (world_of c.lines.session)) next.line.items _ c.lines.invariant.ran took)
+    rw (p.1, p.2) (next_halts _ _ _ _ _ c.lines.script next (Some (world_of c.lines.session)) _ c.lines.invariant.ran took)
 
 pub lines-preserved : goal.lines-preserved
 lines-preserved g c =
     let t = rw c.if-branch.true at c.in_ok-next-2.ensures.took in
-    let line = c.next-in-lines.new.self.line.items in
+    let line = c.next-in-lines.new.self.line in
     let world = world_of c.lines.session in
     let at = t.2 in
     let step = rw c.line-in-lines.ensures at c.in_ok-run.ensures.stepped in
@@ -68,7 +68,7 @@ pub returns-in_err-run-clause-ran : goal.returns-in_err-run-clause-ran
 returns-in_err-run-clause-ran g c =
     let p = err_from_is_err_and c.from_residual-in_err-run.result c.from_residual-in_err-run.ensures.1 in
     let t = rw c.if-branch.true at c.in_ok-next-2.ensures.took in
-    let line = c.next-in-lines.new.self.line.items in
+    let line = c.next-in-lines.new.self.line in
     let world = world_of c.lines.session in
     let next = world_of c.run.new.self in
     let step = subst (λ (shown : List ℕ). Stepped world next shown (g.K.Sink.held c.lines.sink) (g.K.Sink.held c.run.new.sink) (Err c.in_err-run.field-0.0)) c.line-in-lines.ensures c.in_err-run.ensures.stepped in

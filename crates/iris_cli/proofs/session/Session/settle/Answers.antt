@@ -1,21 +1,20 @@
-use Rattle.std.proofs.Common.{◌∙◌, length}
+use Rattle.std.proofs.Common.{◌∙◌, length, rules}
 use Rattle.std.proofs.lemmas.Result.{err_from_is_err_and}
 use Rattle.iris_json.specs.declared.out.Out.TheVariants as outs
-use Rattle.iris_json.specs.Out.{out_text}
 use Rattle.iris_cli.specs.Run.{all_delivered}
-use Rattle.iris_cli.specs.Sessions.{held_of}
-use Rattle.iris_cli.proofs.Putting.{puts_but_last, puts_last}
+use Rattle.iris_cli.proofs.Putting.{writes_but_last, writes_last}
 use Rattle.iris_cli.proofs.session.Session.settle.Goals as goal
 
-pub returns-in_err-deliver_all-clause-bytes : goal.returns-in_err-deliver_all-clause-bytes
-returns-in_err-deliver_all-clause-bytes g c =
+pub returns-in_err-deliver_all : goal.returns-in_err-deliver_all
+returns-in_err-deliver_all g c =
     let s = c.args.self.now in
     let p = err_from_is_err_and c.from_residual.result c.from_residual.ensures.1 in
-    rw p.1
-    (puts_but_last (g.K.Sink.held c.args.sink.now) (g.K.Sink.held c.deliver_all.new.sink) p.0 (all_delivered (held_of s.site) s.posted.items) (out_text (outs.Settled (length s.posted.items))) c.in_err-deliver_all.ensures.bytes)
+    rw (p.1, p.2) (record { writes = writes_but_last _ _ _ _ (all_delivered s.site s.posted.items) (outs.Settled (length s.posted.items)) c.in_err-deliver_all.field-0.0 c.in_err-deliver_all.ensures.writes; after = tt })
 
-pub returns-clause-bytes : goal.returns-clause-bytes
-returns-clause-bytes g c =
+pub returns : goal.returns
+returns g c =
     let s = c.args.self.now in
-    puts_last (g.K.Sink.held c.args.sink.now) (g.K.Sink.held c.deliver_all.new.sink) (g.K.Sink.held c.put.new.sink) c.put.result (all_delivered (held_of s.site) s.posted.items) (out_text (outs.Settled (length s.posted.items))) c.in_ok-deliver_all.ensures.bytes
-    (rw (c.len-settled.ensures ∙ s.posted.ok.0) at c.put.ensures.bytes)
+    record {
+      writes = writes_last _ _ _ _ _ _ (all_delivered s.site s.posted.items) (outs.Settled (length s.posted.items)) c.put.result _ c.in_ok-deliver_all.ensures.writes (rw (c.len-settled.ensures ∙ s.posted.ok.0) at c.put.ensures);
+      after = search rules;
+    }

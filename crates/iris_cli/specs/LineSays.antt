@@ -18,16 +18,16 @@ abbrev pub Spells : List (List ℕ) → List ℕ → Syntax → Type 0
 Spells kinds text query = Reads kinds text query × Within text query
 
 -- the line is one of a script, and says this, with queries of these kinds
-abbrev pub Says : List (List ℕ) → List ℕ → Event → Type 0
-Says kinds line (events.Post (sent.Query query)) = (text : List ℕ) × ReadsLine line (lines.Query text) × Spells kinds text query
-Says kinds line (events.Post (sent.Update update)) = ReadsLine line (lines.Update update.name update.no update.changes)
-Says kinds line (events.Audit query) = (text : List ℕ) × ReadsLine line (lines.Audit text) × Spells kinds text query
-Says kinds line (events.Now at) = ReadsLine line (lines.Now at)
-Says kinds line events.Settle = ReadsLine line lines.Settle
+abbrev pub LineSays : List (List ℕ) → List ℕ → Event → Type 0
+LineSays kinds line (events.Post (sent.Query query)) = (text : List ℕ) × ReadsLine line (lines.Query text) × Spells kinds text query
+LineSays kinds line (events.Post (sent.Update update)) = ReadsLine line (lines.Update update.name update.no update.changes)
+LineSays kinds line (events.Audit query) = (text : List ℕ) × ReadsLine line (lines.Audit text) × Spells kinds text query
+LineSays kinds line (events.Now at) = ReadsLine line (lines.Now at)
+LineSays kinds line events.Settle = ReadsLine line lines.Settle
 
 -- the line is none of a script
 abbrev pub IsNoEvent : List (List ℕ) → List ℕ → Type 0
-IsNoEvent kinds line = (event : Event) → Says kinds line event → ⊥
+IsNoEvent kinds line = (event : Event) → LineSays kinds line event → ⊥
 
 -- the line asks for a text that is no query
 pub record AsksNothing (kinds : List (List ℕ)) (line : List ℕ) : Type 0 where
