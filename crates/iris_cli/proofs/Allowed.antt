@@ -27,7 +27,7 @@ use Rattle.iris_cli.specs.declared.event.Event.{Event}
 use Rattle.iris_cli.specs.declared.event.Event.TheVariants as events
 use Rattle.iris_cli.specs.declared.event.Sent.{Sent}
 use Rattle.iris_cli.specs.declared.event.Sent.TheVariants as sent
-use Rattle.iris_cli.specs.declared.event.NodeUpdate.{NodeUpdate}
+use Rattle.iris_cli.specs.declared.event.SentUpdate.{SentUpdate}
 use Rattle.iris_cli.specs.declared.session.Posted.{Posted}
 use Rattle.iris_cli.specs.Run.{SiteState, World, items_of_query, version_of, newest_cite, made_by, after_update, after_delivery, after_all, is_posted, after, Runs, Starts}
 use Rattle.iris_cli.specs.Played.{DoneSo}
@@ -144,7 +144,7 @@ newest_allowed h query good = record {
 
 -- ---- what updates keep
 
-good_update : (h : SiteState) (request : ℕ) (u : NodeUpdate) (made : Result Local Out) → made_by h request u ≡ made → IsGood h → IsGood (after_update h u made)
+good_update : (h : SiteState) (request : ℕ) (u : SentUpdate) (made : Result Local Out) → made_by h request u ≡ made → IsGood h → IsGood (after_update h u made)
 good_update h request u (Err refusal) is good = good
 good_update h request u (Ok local) is good =
     let us = updates_in h.history.entries in

@@ -16,14 +16,14 @@ use Rattle.iris_tree.specs.declared.change.Change.{Change}
 use Rattle.iris_tree.specs.Document.{with_local}
 use Rattle.iris_tree.proofs.WithLocals.{locals_kept}
 use Rattle.iris_book.proofs.Values.{value_nowhere}
-use Rattle.iris_cli.specs.declared.event.NodeUpdate.{NodeUpdate}
+use Rattle.iris_cli.specs.declared.event.SentUpdate.{SentUpdate}
 use Rattle.iris_cli.specs.Run.{SiteState, or_bad_change, changed_at, made_by}
 
 was_changed : (request : ℕ) (changed : Result Local ℕ) (local : Local) → or_bad_change request changed ≡ Ok local → changed ≡ Ok local
 was_changed request (Ok l) local e = let same : l ≡ local = cc in ap (λ (v : Local). Ok v) same
 was_changed request (Err at) local e = absurd (cc)
 
-was_made : (old : Bool) (out : Out) (value : Option Local) (request : ℕ) (u : NodeUpdate) (local : Local) → (if old then Err out else changed_at request value u) ≡ Ok local → (before : Local) × (value ≡ Some before) × (apply_changes before u.changes ≡ Ok local)
+was_made : (old : Bool) (out : Out) (value : Option Local) (request : ℕ) (u : SentUpdate) (local : Local) → (if old then Err out else changed_at request value u) ≡ Ok local → (before : Local) × (value ≡ Some before) × (apply_changes before u.changes ≡ Ok local)
 was_made true out value request u local e = absurd (cc)
 was_made false out None request u local e = absurd (cc)
 was_made false out (Some before) request u local e = (before, refl, was_changed request (apply_changes before u.changes) local e)
@@ -34,7 +34,7 @@ at_node None n value before none e = absurd (let z = none refl in cc)
 at_node (Some here) n value before none e = e
 
 -- an update that makes this local information may come next
-pub made_next : (h : SiteState) (request : ℕ) (u : NodeUpdate) (local : Local) → made_by h request u ≡ Ok local → All (λ v. v.1.at ≤ h.now) (updates_in h.history.entries)
+pub made_next : (h : SiteState) (request : ℕ) (u : SentUpdate) (local : Local) → made_by h request u ≡ Ok local → All (λ v. v.1.at ≤ h.now) (updates_in h.history.entries)
     → IsNext h.history.start (updates_in h.history.entries) u.name (record { no = u.no; changes = u.changes; local = local; at = h.now })
 made_next h request u local e past =
     let made = was_made _ _ _ request u local e in

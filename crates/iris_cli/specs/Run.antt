@@ -24,7 +24,7 @@ use Rattle.iris_cli.specs.declared.event.Event.{Event}
 use Rattle.iris_cli.specs.declared.event.Event.TheVariants as events
 use Rattle.iris_cli.specs.declared.event.Sent.{Sent}
 use Rattle.iris_cli.specs.declared.event.Sent.TheVariants as sent
-use Rattle.iris_cli.specs.declared.event.NodeUpdate.{NodeUpdate}
+use Rattle.iris_cli.specs.declared.event.SentUpdate.{SentUpdate}
 use Rattle.iris_cli.specs.declared.session.Posted.{Posted}
 use Rattle.iris_cli.specs.Lines.{ended}
 use Rattle.iris_cli.specs.LineSays.{LineSays}
@@ -94,20 +94,20 @@ abbrev pub or_bad_change : ℕ → Result Local ℕ → Result Local Out
 or_bad_change request (Ok local) = Ok local
 or_bad_change request (Err at) = Err (outs.BadChange at request)
 
-abbrev pub changed_at : ℕ → Option Local → NodeUpdate → Result Local Out
+abbrev pub changed_at : ℕ → Option Local → SentUpdate → Result Local Out
 changed_at request None update = Err (outs.NoSuchNode request)
 changed_at request (Some local) update = or_bad_change request (apply_changes local update.changes)
 
 -- what an update makes of its node's newest value, or what is told where it is refused: its number is not greater than the last accepted one, or a change fails
-abbrev pub made_by : SiteState → ℕ → NodeUpdate → Result Local Out
+abbrev pub made_by : SiteState → ℕ → SentUpdate → Result Local Out
 made_by s request update =
     if nat_le update.no (last_number s update.name) then Err (outs.Old (last_number s update.name) request) else changed_at request (value_at s.history update.name (version_of s update.name)) update
 
-abbrev pub update_out : SiteState → ℕ → NodeUpdate → Result Local Out → Out
+abbrev pub update_out : SiteState → ℕ → SentUpdate → Result Local Out → Out
 update_out s request update (Ok local) = outs.Accepted (version_of s update.name + 1) request
 update_out s request update (Err refusal) = refusal
 
-abbrev pub after_update : SiteState → NodeUpdate → Result Local Out → SiteState
+abbrev pub after_update : SiteState → SentUpdate → Result Local Out → SiteState
 after_update s update (Ok local) = record { history = with_entry s.history (entries.Updated update.name update.no update.changes local s.now); now = s.now }
 after_update s update (Err refusal) = s
 

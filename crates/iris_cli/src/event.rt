@@ -10,7 +10,7 @@ use std::alloc::Global;
 
 /// An update of a node, as a line asks for it.
 #[derive(Debug, Drop)]
-pub struct NodeUpdate {
+pub struct SentUpdate {
     pub name: Name,
     /// Greater than that of each update of the node before it, or it is old.
     pub no: u64,
@@ -22,7 +22,7 @@ pub struct NodeUpdate {
 #[derive(Debug, Drop)]
 pub enum Sent {
     Query { query: Query },
-    Update { update: NodeUpdate },
+    Update { update: SentUpdate },
 }
 
 /// What a line after the first says.
@@ -52,7 +52,7 @@ impl Event {
                 }
             }
             Line::Update { name, no, changes } => {
-                let update = NodeUpdate { name, no, changes };
+                let update = SentUpdate { name, no, changes };
                 Event::Post {
                     sent: Sent::Update { update },
                 }

@@ -83,7 +83,6 @@ impl Script {
     }
 
     // Takes the one byte after which the script has too many lines.
-    #[tactic(auto, using(crate::proofs::Taken::takes_past_script, crate::proofs::Taken::takes_past_lines))]
     fn next_past<S: Source>(&mut self, source: &mut S) -> Result<bool, Halt>
         requires full { self.old.number ≡ MAX_LINES }
         ensures took { TakesNext self.old (S.left source.old) (S.left source.new) self.new result }

@@ -4,7 +4,7 @@ ghost use Rattle.iris_tree.specs.Universe.{node_at};
 ghost use Rattle.iris_book.specs.Book.{today};
 ghost use Rattle.iris_cli.specs.Run.{version_of, newest_cite, answer_out, audit_out, delivered, after_delivery, made_by, update_out, after_update};
 
-use crate::event::{NodeUpdate, Sent};
+use crate::event::{Sent, SentUpdate};
 use iris_book::{Book, Entry};
 use iris_json::Out;
 use iris_select::{evaluate, items_at, select};
@@ -129,7 +129,7 @@ impl Site {
     }
 
     // What an update makes of its node's newest value, or what is told where it is refused.
-    fn make(&self, request: u64, update: &NodeUpdate) -> Mem<Result<Local, Out>>
+    fn make(&self, request: u64, update: &SentUpdate) -> Mem<Result<Local, Out>>
         ensures { IfOk result (λ made. made ≡ made_by self.now request update.now) }
     {
         let last = self.book.last_number(&update.name);
@@ -151,13 +151,13 @@ impl Site {
     }
 
     // Enters an update that leaves this local information.
-    fn accept(&mut self, update: NodeUpdate, local: Local) -> Mem<()>
+    fn accept(&mut self, update: SentUpdate, local: Local) -> Mem<()>
         requires made { (request : ℕ) × (made_by self.old request update ≡ Ok local) }
         ensures ok { OnOk result (self.new ≡ after_update self.old update (Ok local)) }
         ensures err { OnErr result (self.new ≡ self.old) }
     {
         self.book.reserve(1)?;
-        let NodeUpdate { name, no, changes } = update;
+        let SentUpdate { name, no, changes } = update;
         self.document.set_local(&name, local.copy()?);
         self.book.push(Entry::Updated {
             name,
@@ -170,7 +170,7 @@ impl Site {
     }
 
     // Serves an update: it is accepted, or the line tells why not and all stays.
-    fn serve(&mut self, request: u64, update: NodeUpdate) -> Mem<Out>
+    fn serve(&mut self, request: u64, update: SentUpdate) -> Mem<Out>
         ensures told { IfOk result (λ out. out ≡ update_out self.old request update (made_by self.old request update)) }
         ensures after { OnOk result (self.new ≡ after_update self.old update (made_by self.old request update)) }
         ensures err { OnErr result (self.new ≡ self.old) }

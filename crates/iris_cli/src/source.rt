@@ -1,7 +1,7 @@
 //! Sources of bytes that count their faults: one in memory, and one over a reader of the standard
 //! library.
 
-ghost use Rattle.std.specs.Prelude.{◌≡◌, ℕ, List, Some, None, false, take, drop, ◌≤◌, ◌<◌, ◌^◌, length, [], ◌∷◌, ◌++◌, IfOk, IfErr};
+ghost use Rattle.std.specs.Prelude.{◌≡◌, ℕ, List, Some, None, true, false, take, drop, ◌≤◌, ◌<◌, ◌^◌, length, [], ◌∷◌, ◌++◌, IfOk, IfErr};
 ghost use Rattle.std.specs.Io.{ReadsAtMost};
 ghost use Rattle.std.specs.Io.KnownBytes.{ReadConsumes};
 ghost use Rattle.std.specs.IoError.{error_kind};
@@ -9,9 +9,9 @@ ghost use Rattle.std.specs.declared.option.Option.{Option};
 ghost use Rattle.iris_base.specs.Outside.{HasCause};
 ghost use Rattle.iris_cli.specs.Lines.{TakesPart, NoLf};
 
-use memchr::memchr;
 use crate::fault::fail;
 use iris_tree::{Fault, MAX_TRIES};
+use memchr::memchr;
 use std::alloc::Global;
 use std::io;
 use std::io::{BufRead, BufReader, ErrorKind, Read};
@@ -128,6 +128,7 @@ pub struct StdSource<R: Read + Drop> {
 // How many of these bytes are before the first LF, and whether there is one.
 fn before_lf(bytes: &[u8]) -> (usize, bool)
     ensures within { result.0 ≤ length bytes.now }
+    ensures lf { result.1 ≡ true → result.0 < length bytes.now }
     ensures no_lf { NoLf (take result.0 bytes.now) }
     ensures some { 0 < length bytes.now → result.1 ≡ false → 0 < result.0 }
 {

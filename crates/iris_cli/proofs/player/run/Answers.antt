@@ -18,13 +18,13 @@ pub returns-in_err-session-clause-ran : goal.returns-in_err-session-clause-ran
 returns-in_err-session-clause-ran g c =
     let p = err_from_is_err_and c.from_residual-in_err-session.result c.from_residual-in_err-session.ensures.1 in
     let so = so_start (g.S.Source.left c.args.source.now) (g.K.Sink.held c.args.sink.now) c.args.script.now.number c.args.script.now.room c.requires.unread c.requires.whole in
-    let t = first_taken _ _ _ _ c.in_ok-next.field-0 c.requires.unread c.in_ok-next.ensures.took in
+    let t = first_taken c.args.script.now c.next.new.self _ _ c.in_ok-next.field-0 c.requires.unread c.in_ok-next.ensures.took in
     rw (p.1, p.2) (start_halts _ _ _ _ _ _ _ _ _ _ so t.0 t.1 t.2 (rw c.line.ensures at c.in_err-session.ensures.refused))
 
 pub lines-init : goal.lines-init
 lines-init g c =
     let so = so_start (g.S.Source.left c.args.source.now) (g.K.Sink.held c.args.sink.now) c.args.script.now.number c.args.script.now.room c.requires.unread c.requires.whole in
-    let t = first_taken _ _ _ _ c.in_ok-next.field-0 c.requires.unread c.in_ok-next.ensures.took in
+    let t = first_taken c.args.script.now c.next.new.self _ _ c.in_ok-next.field-0 c.requires.unread c.in_ok-next.ensures.took in
     let line = c.next.new.self.line in
     let starts = c.in_ok-session.ensures.starts in
     let requests = starts.no_requests in

@@ -7,4 +7,4 @@ use Rattle.iris_cli.proofs.session.Session.put_post.Goals as goal
 pub returns-in_err-out : goal.returns-in_err-out
 returns-in_err-out g c =
     let p = err_from_is_err_and c.from_residual.result c.from_residual.ensures.1 in
-    rw (p.1, p.2) (acts_nothing (world_of c.args.self.now) (world_of c.post.new.self) (events.Post c.args.sent) (g.K.Sink.held c.args.sink.now) (g.K.Sink.faults c.args.sink.now))
+    rw (p.1, p.2) (record { acts = acts_nothing (world_of c.args.self.now) (world_of c.post.new.self) (events.Post c.args.sent) (g.K.Sink.held c.args.sink.now) (g.K.Sink.faults c.args.sink.now) })
