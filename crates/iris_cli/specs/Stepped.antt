@@ -44,7 +44,7 @@ Stepped w next line old new (Err ReadFault) = ⊥
 
 -- ---- the lines so far
 
--- so many lines were done as the reading of the script says, the source has the rest, and the script may have `room` bytes more
+-- so many lines were done, the source has the rest, and the script may have `room` bytes more
 abbrev pub IsSoFar : Option (List ℕ) → Option (List ℕ) → Option (List ℕ) → Option (List ℕ) → ℕ → ℕ → Option World → Type 0
 IsSoFar None now old new number room w = Unit {0}
 IsSoFar (Some text) None old new number room w = ⊥

@@ -13,6 +13,8 @@ pub mod sink;
 mod site;
 pub mod source;
 mod status;
+#[cfg(test)]
+mod tests;
 
 pub use player::play;
 pub use sink::{MemorySink, Sink, StdSink};
