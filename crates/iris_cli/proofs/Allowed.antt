@@ -18,9 +18,9 @@ use Rattle.iris_xpath.specs.ThinMeaning.{is_looked_into, full_names}
 use Rattle.iris_xpath.specs.ThinQuery.{thin_of}
 use Rattle.iris_book.specs.declared.entry.Entry.{Entry}
 use Rattle.iris_book.specs.declared.entry.Entry.TheVariants.{Updated}
-use Rattle.iris_book.specs.declared.update.Update as accepted
+use Rattle.iris_book.specs.declared.update.NodeUpdate as accepted
 use Rattle.iris_book.specs.Book as book
-use Rattle.iris_book.specs.Book.{History, Updates, with_entry, update_in, updates_in, if_of, updates_of, updates_at, newest, value_of, value_at, left_by, today, AreSound, IsSound}
+use Rattle.iris_book.specs.Book.{History, Updates, with_entry, update_in, updates_in, if_of, updates_of, updates_at, update_count, value_after, value_at, left_by, today, AreSound, IsSound}
 use Rattle.iris_book.proofs.Named.{name_exact}
 use Rattle.iris_book.proofs.Values.{value_zero, value_is, sound_more}
 use Rattle.iris_cli.specs.declared.event.Event.{Event}
@@ -47,38 +47,38 @@ pub record IsGood (h : SiteState) : Type 0 where
 -- ---- newest values
 
 -- the last of these updates, and what it left
-last_update : (x : accepted.Update) (xs : List accepted.Update) (old : Local) → (u : accepted.Update) × (slice_get (x ∷ xs) (length xs) ≡ Some u) × (left_by old (x ∷ xs) ≡ u.local)
+last_update : (x : accepted.NodeUpdate) (xs : List accepted.NodeUpdate) (old : Local) → (u : accepted.NodeUpdate) × (slice_get (x ∷ xs) (length xs) ≡ Some u) × (left_by old (x ∷ xs) ≡ u.local)
 last_update x [] old = (x, refl, refl)
 last_update x (y ∷ ys) old = let last = last_update y ys x.local in (last.0, last.1, last.2)
 
 -- the value of the newest version is what the updates left
-value_newest : (start : Node) (us : Updates) (name : List Label) (old : Local) → AreSound start us → local_at start name ≡ Some old → value_of start us name (length (updates_of us name)) ≡ Some (left_by old (updates_of us name))
+value_newest : (start : Node) (us : Updates) (name : List Label) (old : Local) → AreSound start us → local_at start name ≡ Some old → value_after start us name (length (updates_of us name)) ≡ Some (left_by old (updates_of us name))
 value_newest start us name old sound there = by (updates_of us name) refl
   where
-    by : (xs : List accepted.Update) → updates_of us name ≡ xs → value_of start us name (length xs) ≡ Some (left_by old xs)
+    by : (xs : List accepted.NodeUpdate) → updates_of us name ≡ xs → value_after start us name (length xs) ≡ Some (left_by old xs)
     by [] same = value_zero start us name ∙ there
     by (x ∷ xs) same =
         let last = last_update x xs old in
         let next : suc (length xs) ≡ length xs + 1 = omega arith in
-        ap (λ n. value_of start us name n) next
-        ∙ value_is start us name (length xs) last.0 sound (ap (λ (ys : List accepted.Update). slice_get ys (length xs)) same ∙ last.1)
+        ap (λ n. value_after start us name n) next
+        ∙ value_is start us name (length xs) last.0 sound (ap (λ (ys : List accepted.NodeUpdate). slice_get ys (length xs)) same ∙ last.1)
         ∙ ap (λ (l : Local). Some l) (sym last.2)
 
 -- of a node that is there, the cited version is its newest
-version_is : (h : SiteState) (name : List Label) → IsThere h.history.start name → version_of h name ≡ newest h.history name
+version_is : (h : SiteState) (name : List Label) → IsThere h.history.start name → version_of h name ≡ update_count h.history name
 version_is h name there = by (node_at h.history.start name) there.1
   where
-    by : (here : Option Node) → option_map local_of here ≡ Some there.0 → option_map_or (λ version. version) (option_map (λ _. newest h.history name) here) 0 ≡ newest h.history name
+    by : (here : Option Node) → option_map local_of here ≡ Some there.0 → option_map_or (λ version. version) (option_map (λ _. update_count h.history name) here) 0 ≡ update_count h.history name
     by None e = absurd (cc)
     by (Some n) e = refl
 
 -- the newest cites tell the newest version, whichever names they are of
-tells_newest : (h : SiteState) (names : List (List Label)) (name : List Label) → IsThere h.history.start name → version_by h.history (map (newest_cite h) names) name ≡ newest h.history name
+tells_newest : (h : SiteState) (names : List (List Label)) (name : List Label) → IsThere h.history.start name → version_by h.history (map (newest_cite h) names) name ≡ update_count h.history name
 tells_newest h [] name there = refl
 tells_newest h (n ∷ names) name there = by (pointwise label_eq n name) refl (tells_newest h names name there)
   where
-    by : (b : Bool) → pointwise label_eq n name ≡ b → version_by h.history (map (newest_cite h) names) name ≡ newest h.history name
-        → option_map_or (λ version. version) (option_map (λ (c : Cite). c.version) (if b then Some (newest_cite h n) else find (λ (c : Cite). pointwise label_eq c.name name) (map (newest_cite h) names))) (newest h.history name) ≡ newest h.history name
+    by : (b : Bool) → pointwise label_eq n name ≡ b → version_by h.history (map (newest_cite h) names) name ≡ update_count h.history name
+        → option_map_or (λ version. version) (option_map (λ (c : Cite). c.version) (if b then Some (newest_cite h n) else find (λ (c : Cite). pointwise label_eq c.name name) (map (newest_cite h) names))) (update_count h.history name) ≡ update_count h.history name
     by true same rest = ap (version_of h) (name_exact n name same) ∙ version_is h name there
     by false other rest = rest
 
@@ -104,11 +104,11 @@ past_of now (u ∷ us) name k past = by (pointwise label_eq name u.0) k (λ i. p
     by true (suc i) rest = rest i
     by false i rest = rest i
 
-newest_held : (h : SiteState) (name : List Label) → IsGood h → IsThere h.history.start name → book.Held h.history name (version_of h name) h.now
-newest_held h name good there = subst (λ version. book.Held h.history name version h.now) (sym (version_is h name there)) (record {
+newest_held : (h : SiteState) (name : List Label) → IsGood h → IsThere h.history.start name → book.HadVersion h.history name (version_of h name) h.now
+newest_held h name good there = subst (λ version. book.HadVersion h.history name version h.now) (sym (version_is h name there)) (record {
   there = subst (λ (o : Option Local). IsSome o) (sym (value_newest h.history.start (updates_in h.history.entries) name there.0 good.sound there.1)) refl;
   begun = λ before next. past_of h.now (updates_in h.history.entries) name before good.past;
-  not_over = subst (λ (o : Option accepted.Update). IfSome o (λ u. h.now ≤ u.at)) (sym (slice_get_past (updates_at h.history name) (newest h.history name) (omega arith))) tt;
+  not_over = subst (λ (o : Option accepted.NodeUpdate). IfSome o (λ u. h.now ≤ u.at)) (sym (slice_get_past (updates_at h.history name) (update_count h.history name) (omega arith))) tt;
 })
 
 -- ---- an answer
@@ -120,11 +120,11 @@ names_cited h (name ∷ names) = ap (λ (rest : List (List Label)). name ∷ res
 -- an answer of today's items, with the newest cites of the nodes that were looked into
 newest_allowed : (h : SiteState) (query : Syntax) → IsGood h → IsAllowed h.history h.now query (items_of_query (today h.history) query) (map (newest_cite h) (full_names (today h.history) query)) true
 newest_allowed h query good = record {
-  held = of_cites (λ c. book.Held h.history c.name c.version c.stamp) (λ name there. newest_held h name good there);
+  held = of_cites (λ c. book.HadVersion h.history c.name c.version c.stamp) (λ name there. newest_held h name good there);
   past = of_cites (λ c. c.stamp ≤ h.now) (λ name there. omega arith);
   names_are = names_cited h names ∙ ap (λ (d : Node). full_names d query) (sym is_today);
   items_are = ap (λ (d : Node). items_of_query d query) (sym is_today);
-  newest_is = ((λ yes. of_cites (λ c. c.version ≡ newest h.history c.name) (λ name there. version_is h name there)), (λ all. refl));
+  newest_is = ((λ yes. of_cites (λ c. c.version ≡ update_count h.history c.name) (λ name there. version_is h name there)), (λ all. refl));
   today_is = λ yes. is_today;
 }
   where
@@ -148,7 +148,7 @@ good_update : (h : SiteState) (request : ℕ) (u : SentUpdate) (made : Result Lo
 good_update h request u (Err refusal) is good = good
 good_update h request u (Ok local) is good =
     let us = updates_in h.history.entries in
-    let update : accepted.Update = record { no = u.no; changes = u.changes; local = local; at = h.now } in
+    let update : accepted.NodeUpdate = record { no = u.no; changes = u.changes; local = local; at = h.now } in
     let entry = Updated u.name u.no u.changes local h.now in
     let next : AreSound h.history.start (us ++ (u.name, update) ∷ []) = sound_more h.history.start us u.name update good.sound (made_next h request u local is good.past) in
     record {

@@ -12,7 +12,7 @@ use Rattle.iris_json.specs.CityLine.{ReadsCity, GivesCity, RefusesCity}
 use Rattle.iris_tree.specs.Universe.{Node}
 use Rattle.iris_xpath.specs.Syntax.{Syntax}
 use Rattle.iris_xpath.specs.Grammar.{Reads, Within}
-use Rattle.iris_xpath.specs.Gives.{Gives}
+use Rattle.iris_xpath.specs.GivesQuery.{GivesQuery}
 use Rattle.iris_xpath.specs.declared.error.QueryError.{QueryError}
 use Rattle.iris_xpath.specs.declared.error.QueryError.TheVariants as query_errors
 use Rattle.iris_cli.specs.declared.event.Event.TheVariants as events
@@ -50,7 +50,7 @@ refused_line kinds bytes line_errors.Memory only refuses = tt
 
 -- what `parse` says of a text
 abbrev Parses : List (List ℕ) → List ℕ → Result Syntax QueryError → Type 0
-Parses kinds text parsed = (query : Syntax) → Reads kinds text query → Within text query → Gives parsed query
+Parses kinds text parsed = (query : Syntax) → Reads kinds text query → Within text query → GivesQuery parsed query
 
 no_spelling : (kinds : List (List ℕ)) (text : List ℕ) → Parses kinds text (Err query_errors.Later) → (query : Syntax) → Spells kinds text query → ⊥
 no_spelling kinds text parses query spells = parses query spells.0 spells.1

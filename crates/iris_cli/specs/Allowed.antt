@@ -13,7 +13,7 @@ use Rattle.iris_json.specs.declared.out.Out.TheVariants as outs
 use Rattle.iris_xpath.specs.Syntax.{Syntax}
 use Rattle.iris_xpath.specs.ThinMeaning.{full_names}
 use Rattle.iris_book.specs.Book as book
-use Rattle.iris_book.specs.Book.{History, newest, value_at, today}
+use Rattle.iris_book.specs.Book.{History, update_count, value_at, today}
 use Rattle.iris_cli.specs.declared.event.Event.{Event}
 use Rattle.iris_cli.specs.declared.event.Event.TheVariants as events
 use Rattle.iris_cli.specs.declared.event.Sent.{Sent}
@@ -30,7 +30,7 @@ cited_version cites name = option_map (λ c. c.version) (find (λ c. pointwise l
 
 -- that version, or the node's newest where no cite is of it
 abbrev pub version_by : History → List Cite → List Label → ℕ
-version_by h cites name = option_map_or (λ version. version) (cited_version cites name) (newest h name)
+version_by h cites name = option_map_or (λ version. version) (cited_version cites name) (update_count h name)
 
 -- the document in which each cited node has the value of its cited version, and each other node its newest value
 abbrev pub document_of_cites : History → List Cite → Node
@@ -43,11 +43,11 @@ document_of_cites h cites = with_locals h.start (λ name old. option_map_or (λ 
 -- In the document of the cites, the cited nodes are those that the query looks into, and the items are those that it selects.
 -- The answer says that it is the newest exactly where each cited version is, and then that document is today's.
 pub record IsAllowed (h : History) (now : ℕ) (query : Syntax) (items : List Item) (cites : List Cite) (newest_only : Bool) : Type 0 where
-  pub held : All (λ c. book.Held h c.name c.version c.stamp) cites
+  pub held : All (λ c. book.HadVersion h c.name c.version c.stamp) cites
   pub past : All (λ c. c.stamp ≤ now) cites
   pub names_are : map (λ c. c.name) cites ≡ full_names (document_of_cites h cites) query
   pub items_are : items ≡ items_of_query (document_of_cites h cites) query
-  pub newest_is : (newest_only ≡ true) ↔ All (λ c. c.version ≡ newest h c.name) cites
+  pub newest_is : (newest_only ≡ true) ↔ All (λ c. c.version ≡ update_count h c.name) cites
   pub today_is : newest_only ≡ true → document_of_cites h cites ≡ today h
 
 -- this is an allowed answer to the query of that request

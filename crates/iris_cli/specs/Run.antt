@@ -94,14 +94,14 @@ abbrev pub or_bad_change : ℕ → Result Local ℕ → Result Local Out
 or_bad_change request (Ok local) = Ok local
 or_bad_change request (Err at) = Err (outs.BadChange at request)
 
-abbrev pub changed_at : ℕ → Option Local → SentUpdate → Result Local Out
-changed_at request None update = Err (outs.NoSuchNode request)
-changed_at request (Some local) update = or_bad_change request (apply_changes local update.changes)
+-- what an update makes of a node's value, where there is one, and of the number of its last update; or what is told where it is refused: no node is there, its number is not greater, or a change fails
+abbrev pub made_of : ℕ → Option Local → ℕ → SentUpdate → Result Local Out
+made_of request None last update = Err (outs.NoSuchNode request)
+made_of request (Some local) last update = if nat_le update.no last then Err (outs.Old last request) else or_bad_change request (apply_changes local update.changes)
 
--- what an update makes of its node's newest value, or what is told where it is refused: its number is not greater than the last accepted one, or a change fails
+-- what an update makes of its node's newest value, or what is told where it is refused
 abbrev pub made_by : SiteState → ℕ → SentUpdate → Result Local Out
-made_by s request update =
-    if nat_le update.no (last_number s update.name) then Err (outs.Old (last_number s update.name) request) else changed_at request (value_at s.history update.name (version_of s update.name)) update
+made_by s request update = made_of request (value_at s.history update.name (version_of s update.name)) (last_number s update.name) update
 
 abbrev pub update_out : SiteState → ℕ → SentUpdate → Result Local Out → Out
 update_out s request update (Ok local) = outs.Accepted (version_of s update.name + 1) request

@@ -1,13 +1,13 @@
 //! What the one agent of a city holds, what it answers, and what it accepts.
-ghost use Rattle.std.specs.Prelude.{◌≡◌, ℕ, [], not, nat_lt, is_some, map, Ok, IfOk, OnOk, OnErr, if◌then◌else◌};
+ghost use Rattle.std.specs.Prelude.{◌≡◌, ℕ, [], not, nat_lt, is_some, map, Ok, Some, IfOk, OnOk, OnErr, if◌then◌else◌};
 ghost use Rattle.iris_tree.specs.Universe.{node_at};
 ghost use Rattle.iris_book.specs.Book.{today};
-ghost use Rattle.iris_cli.specs.Run.{version_of, newest_cite, answer_out, audit_out, delivered, after_delivery, made_by, update_out, after_update};
+ghost use Rattle.iris_cli.specs.Run.{version_of, newest_cite, answer_out, audit_out, delivered, after_delivery, made_of, made_by, update_out, after_update};
 
 use crate::event::{Sent, SentUpdate};
-use iris_book::{Book, Entry};
+use iris_book::{Book, Entry, Newest};
 use iris_json::Out;
-use iris_select::{evaluate, items_at, select};
+use iris_select::evaluate_items;
 use iris_tree::{ChangeError, Cite, Local, Mem, Memory, Name, Sequence, Tree};
 use iris_xpath::Query;
 use std::alloc::Global;
@@ -40,6 +40,24 @@ impl Model for Site {
 
     // The document is today's, and no update came after the present moment.
     ghost invariant = { λ s. (s.document ≡ today s.book.history) × All (λ u. u.1.at ≤ s.moment) (updates_in s.book.history.entries) };
+}
+
+// What an update makes of its node's newest value, or what is told where it is refused.
+fn make(newest: &Newest, request: u64, update: &SentUpdate) -> Mem<Result<Local, Out>>
+    ensures { IfOk result (λ made. made ≡ made_of request (Some newest.now.local.now) newest.now.number update.now) }
+{
+    let last = newest.number;
+    if update.no <= last {
+        return Ok(Err(Out::Old { last, request }));
+    }
+    match newest.local.change(update.changes.as_slice()) {
+        Ok(local) => Ok(Ok(local)),
+        Err(ChangeError::BadChange { at }) => Ok(Err(Out::BadChange {
+            at: at as u64,
+            request,
+        })),
+        Err(ChangeError::Memory) => Err(Memory),
+    }
 }
 
 impl Site {
@@ -106,10 +124,9 @@ impl Site {
     fn answer(&self, alloc: Global, request: u64, query: &Query) -> Mem<Out>
         ensures { IfOk result (λ out. out ≡ answer_out self.now request query.now) }
     {
-        let found = evaluate(alloc, &self.document, query)?;
-        let items = items_at(alloc, &self.document, &found.places)?;
+        let found = evaluate_items(alloc, &self.document, query)?;
         Ok(Out::Answer {
-            answer: Sequence::from_vec(items),
+            answer: Sequence::from_vec(found.items),
             cites: self.cites(alloc, found.full)?,
             newest: true,
             request,
@@ -120,34 +137,11 @@ impl Site {
     pub fn audit(&self, alloc: Global, request: u64, query: &Query) -> Mem<Out>
         ensures { IfOk result (λ out. out ≡ audit_out self.now request query.now) }
     {
-        let places = select(alloc, &self.document, query)?;
-        let items = items_at(alloc, &self.document, &places)?;
+        let found = evaluate_items(alloc, &self.document, query)?;
         Ok(Out::Audit {
-            audit: Sequence::from_vec(items),
+            audit: Sequence::from_vec(found.items),
             request,
         })
-    }
-
-    // What an update makes of its node's newest value, or what is told where it is refused.
-    fn make(&self, request: u64, update: &SentUpdate) -> Mem<Result<Local, Out>>
-        ensures { IfOk result (λ made. made ≡ made_by self.now request update.now) }
-    {
-        let last = self.book.last_number(&update.name);
-        if update.no <= last {
-            return Ok(Err(Out::Old { last, request }));
-        }
-        let version = self.version(&update.name);
-        let Some(value) = self.book.value(&update.name, version) else {
-            return Ok(Err(Out::NoSuchNode { request }));
-        };
-        match value.change(update.changes.as_slice()) {
-            Ok(local) => Ok(Ok(local)),
-            Err(ChangeError::BadChange { at }) => Ok(Err(Out::BadChange {
-                at: at as u64,
-                request,
-            })),
-            Err(ChangeError::Memory) => Err(Memory),
-        }
     }
 
     // Enters an update that leaves this local information.
@@ -175,12 +169,15 @@ impl Site {
         ensures after { OnOk result (self.new ≡ after_update self.old update (made_by self.old request update)) }
         ensures err { OnErr result (self.new ≡ self.old) }
     {
-        match self.make(request, &update)? {
+        let Some(newest) = self.book.newest(&update.name) else {
+            return Ok(Out::NoSuchNode { request });
+        };
+        let Some(accepted) = newest.version.checked_add(1) else {
+            return Err(Memory);
+        };
+        match make(&newest, request, &update)? {
             Err(refusal) => Ok(refusal),
             Ok(local) => {
-                let Some(accepted) = self.version(&update.name).checked_add(1) else {
-                    return Err(Memory);
-                };
                 self.accept(update, local)?;
                 Ok(Out::Accepted { accepted, request })
             }

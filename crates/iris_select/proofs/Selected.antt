@@ -15,7 +15,7 @@ use Rattle.iris_xpath.specs.Thin.{Main}
 use Rattle.iris_xpath.specs.ThinQuery.{is_thin, thin_of}
 use Rattle.iris_xpath.specs.ThinMeaning.{fits}
 use Rattle.iris_xpath.specs.Walk.{led_to, all_led_to}
-use Rattle.iris_xpath.proofs.Meant.{Finds, finds_all, places_found}
+use Rattle.iris_xpath.proofs.Walk.{Finds, finds_all, places_found}
 use Rattle.iris_select.specs.declared.walk.Selected.{Selected}
 use Rattle.iris_select.specs.Selected.{node_item, place_of_selected, selected_item, items_led_to, all_items_led_to}
 use Rattle.iris_select.proofs.ItemAt.{item_by, item_is}

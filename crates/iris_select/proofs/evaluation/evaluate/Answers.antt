@@ -2,7 +2,7 @@ use Rattle.std.proofs.Common.{List, sym, subst, ◌∙◌}
 use Rattle.std.specs.List.Sorted.{IsStrictlySortedBy}
 use Rattle.iris_tree.specs.Document.{Place}
 use Rattle.iris_xpath.specs.PlaceOrder.{place_cmp}
-use Rattle.iris_xpath.proofs.Ordered.{selected_rise}
+use Rattle.iris_xpath.proofs.PlaceOrder.{selected_rise}
 use Rattle.iris_select.proofs.evaluation.evaluate.Goals as goal
 
 pub returns-clause-ordered : goal.returns-clause-ordered

@@ -1,6 +1,6 @@
 use Rattle.std.proofs.Common.{◌∙◌, sym, ap, map}
 use Rattle.iris_xpath.specs.ThinQuery.{thin_of}
-use Rattle.iris_xpath.proofs.Meant.{names_found}
+use Rattle.iris_xpath.proofs.Walk.{names_found}
 use Rattle.iris_select.specs.Selected.{selected_item}
 use Rattle.iris_select.proofs.Selected.{walk_places, walk_items}
 use Rattle.iris_select.proofs.walk.walk.Goals as goal

@@ -4,7 +4,7 @@ use Rattle.iris_json.specs.declared.line.Line.{Line}
 use Rattle.iris_json.specs.Lines.{ReadsLine, GivesLine}
 use Rattle.iris_xpath.specs.Syntax.{Syntax}
 use Rattle.iris_xpath.specs.Grammar.{Reads, Within}
-use Rattle.iris_xpath.specs.Gives.{Gives}
+use Rattle.iris_xpath.specs.GivesQuery.{GivesQuery}
 use Rattle.iris_cli.proofs.Refused.{refused_line, refused_audit}
 use Rattle.iris_cli.proofs.event.Event.read.Goals as goal
 
@@ -22,5 +22,5 @@ returns-in_err-parse-in-Audit-clause-refused c =
     let error = c.in_err-parse-in-Audit.field-0.0 in
     let reads = subst (λ (l : Line). ReadsLine line l) c.in-Audit.is c.in_ok-query.ensures.found in
     let only = subst (λ (l : Line). (other : Line) → ReadsLine line other → GivesLine (Ok l) other) c.in-Audit.is c.in_ok-query.ensures.only in
-    let parses = subst (λ (t : List ℕ). (query : Syntax) → Reads kinds t query → Within t query → Gives (Err error) query) c.as_str-in-Audit.ensures c.in_err-parse-in-Audit.ensures.only in
+    let parses = subst (λ (t : List ℕ). (query : Syntax) → Reads kinds t query → Within t query → GivesQuery (Err error) query) c.as_str-in-Audit.ensures c.in_err-parse-in-Audit.ensures.only in
     rw (p.1, p.2) (refused_audit kinds line text error reads only parses)
