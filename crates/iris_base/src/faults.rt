@@ -1,5 +1,5 @@
 //! Faults of what lies outside, as sources and sinks of bytes, and how they are counted.
-ghost use Rattle.std.specs.Prelude.{◌≡◌, ◌↔◌, ◌+◌, min};
+ghost use Rattle.std.specs.Prelude.{◌≡◌, ◌↔◌, ◌+◌, ◌≤◌, ◌<◌, min};
 
 use thiserror::Error;
 
@@ -19,6 +19,8 @@ pub enum Fault {
 pub fn count_fault(faults: &mut u64) -> Fault
     ensures count { faults.new ≡ min (faults.old + 1) u64.MAX }
     ensures full { (result ≡ Fault.Memory) ↔ (faults.old ≡ u64.MAX) }
+    ensures later { faults.old ≤ faults.new }
+    ensures failed { result ≡ Fault.Failed → faults.old < faults.new }
 {
     if *faults == u64::MAX {
         return Fault::Memory;

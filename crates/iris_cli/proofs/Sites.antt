@@ -1,12 +1,11 @@
 -- What an update makes of a node's newest value.
-use Rattle.std.proofs.Common.{◌≡◌, ℕ, zero, suc, ◌≤◌, arith, Bool, true, false, if◌then◌else◌, List, [], ◌∷◌, ◌++◌, All, refl, ap, sym, ◌∙◌, subst, Option, Some, None, option_map, Result, Ok, Err}
+use Rattle.std.proofs.Common.{◌≡◌, ℕ, zero, suc, ◌≤◌, arith, Bool, true, false, if◌then◌else◌, List, [], ◌∷◌, ◌++◌, All, refl, ap, sym, ◌∙◌, subst, Option, Some, None, option_map, nat_le, Result, Ok, Err}
 use Rattle.std.specs.Option.{option_map_or}
 use Rattle.std.proofs.lemmas.List.Elements.{filter_map-append, All-append}
 use Rattle.iris_base.specs.declared.name.Label.{Label}
 use Rattle.iris_tree.specs.declared.local.Local.{Local}
 use Rattle.iris_tree.specs.Changes.{apply_changes}
 use Rattle.iris_tree.specs.Universe.{Node, node_at, local_of}
-use Rattle.std.proofs.lemmas.Option.{same_Some}
 use Rattle.iris_json.specs.declared.out.Out.{Out}
 use Rattle.iris_json.specs.declared.out.Out.TheVariants as outs
 use Rattle.iris_book.specs.declared.entry.Entry.{Entry}
@@ -41,7 +40,7 @@ at_node (Some here) n value before none e = e
 -- of a node that is there, what an update makes of what the book tells of it
 version_told : (latest : Option ℕ) (version : ℕ) → Some version ≡ latest → option_map_or (λ v. v) latest 0 ≡ version
 version_told None version e = absurd (cc)
-version_told (Some v) version e = sym (same_Some e)
+version_told (Some v) version e = cc
 
 pub made_there : (s : SiteState) (request : ℕ) (u : SentUpdate) (local : Local) (version number : ℕ) → Some version ≡ latest s.history u.name → value_at s.history u.name version ≡ Some local
     → number ≡ last_number_at s.history u.name → made_by s request u ≡ made_of request (Some local) number u
@@ -53,7 +52,7 @@ made_there s request u local version number told value last =
 -- of a node that is not there, it is told so
 no_value : (here : Option Node) (n : ℕ) → None ≡ option_map (λ _. n) here → option_map local_of here ≡ None
 no_value None n e = refl
-no_value (Some node) n e = absurd (cc)
+no_value (Some there) n e = absurd (cc)
 
 pub made_nowhere : (s : SiteState) (request : ℕ) (u : SentUpdate) → None ≡ latest s.history u.name → made_by s request u ≡ Err (outs.NoSuchNode request)
 made_nowhere s request u none =

@@ -3,7 +3,6 @@
 #![tactic(auto)]
 
 mod event;
-mod fault;
 mod halt;
 mod line;
 mod player;

@@ -6,8 +6,7 @@ ghost use Rattle.std.specs.Io.KnownBytes.{WriteAppends};
 ghost use Rattle.std.specs.declared.option.Option.{Option};
 ghost use Rattle.iris_base.specs.Outside.{HasCause, Puts};
 
-use crate::fault::fail;
-use iris_tree::{Fault, MAX_TRIES};
+use iris_tree::{Fault, MAX_TRIES, count_fault};
 use std::alloc::Global;
 use std::io::{ErrorKind, Write};
 
@@ -70,7 +69,7 @@ impl Sink for MemorySink {
             return Err(Fault::Memory);
         }
         if fails {
-            return Err(fail(&mut self.faults));
+            return Err(count_fault(&mut self.faults));
         }
         Ok(())
     }
@@ -103,16 +102,16 @@ impl<W: Write + Drop> StdSink<W> {
     {
         for _ in 0..MAX_TRIES {
             match self.writer.write(bytes) {
-                Ok(0) => return Err(fail(&mut self.faults)),
+                Ok(0) => return Err(count_fault(&mut self.faults)),
                 Ok(count) => return Ok(count),
                 Err(error) if error.kind() == ErrorKind::Interrupted => {}
                 Err(error) if error.kind() == ErrorKind::OutOfMemory => {
                     return Err(Fault::Memory);
                 }
-                Err(_) => return Err(fail(&mut self.faults)),
+                Err(_) => return Err(count_fault(&mut self.faults)),
             }
         }
-        Err(fail(&mut self.faults))
+        Err(count_fault(&mut self.faults))
     }
 }
 

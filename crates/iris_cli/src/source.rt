@@ -9,8 +9,7 @@ ghost use Rattle.std.specs.declared.option.Option.{Option};
 ghost use Rattle.iris_base.specs.Outside.{HasCause};
 ghost use Rattle.iris_cli.specs.Lines.{TakesPart, NoLf};
 
-use crate::fault::fail;
-use iris_tree::{Fault, MAX_TRIES};
+use iris_tree::{Fault, MAX_TRIES, count_fault};
 use memchr::memchr;
 use std::alloc::Global;
 use std::io;
@@ -106,7 +105,7 @@ impl Source for MemorySource {
         let fails = self.fails.contains(&self.calls);
         self.calls = self.calls.saturating_add(1);
         if fails {
-            return Err(fail(&mut self.faults));
+            return Err(count_fault(&mut self.faults));
         }
         let rest = self.bytes.len() - self.position;
         let count = rest.min(room.len()).min(self.step);
@@ -163,10 +162,10 @@ impl<R: Read + Drop> Source for StdSource<R> {
                 Err(error) if error.kind() == ErrorKind::OutOfMemory => {
                     return Err(Fault::Memory);
                 }
-                Err(_) => return Err(fail(&mut self.faults)),
+                Err(_) => return Err(count_fault(&mut self.faults)),
             }
         }
-        Err(fail(&mut self.faults))
+        Err(count_fault(&mut self.faults))
     }
 
     fn take_until_lf(&mut self, line: &mut Vec<u8>, most: usize) -> Result<LinePart, Fault> {
@@ -189,9 +188,9 @@ impl<R: Read + Drop> Source for StdSource<R> {
                 Err(error) if error.kind() == ErrorKind::OutOfMemory => {
                     return Err(Fault::Memory);
                 }
-                Err(_) => return Err(fail(&mut self.faults)),
+                Err(_) => return Err(count_fault(&mut self.faults)),
             }
         }
-        Err(fail(&mut self.faults))
+        Err(count_fault(&mut self.faults))
     }
 }
