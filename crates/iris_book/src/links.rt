@@ -1,5 +1,5 @@
 //! Steps from updates back to earlier ones of their nodes.
-ghost use Rattle.std.specs.Prelude.{◌≡◌, ℕ, ◌+◌, ◌<◌, ◌≤◌, length, slice_index_or};
+ghost use Rattle.std.specs.Prelude.{ℕ, ◌<◌, ◌≤◌, length, slice_index_or};
 ghost use Rattle.iris_book.specs.declared.linked.LinkedUpdate.{LinkedUpdate};
 ghost use Rattle.iris_book.specs.Linked.{IsAt, IsStep, AllLinked};
 

@@ -20,7 +20,7 @@ use Rattle.iris_book.specs.declared.entry.Entry.{Entry}
 use Rattle.iris_book.specs.declared.entry.Entry.TheVariants.{Updated}
 use Rattle.iris_book.specs.declared.update.NodeUpdate as accepted
 use Rattle.iris_book.specs.Book as book
-use Rattle.iris_book.specs.Book.{History, Updates, with_entry, update_in, updates_in, if_of, updates_of, updates_at, update_count, value_after, value_at, left_by, today, AreSound, IsSound}
+use Rattle.iris_book.specs.Book.{Updates, with_entry, update_in, updates_in, updates_of, updates_at, update_count, value_after, value_at, left_by, today, AreSound, IsSound}
 use Rattle.iris_book.proofs.Named.{name_exact}
 use Rattle.iris_book.proofs.Values.{value_zero, value_is, sound_more}
 use Rattle.iris_cli.specs.declared.event.Event.{Event}

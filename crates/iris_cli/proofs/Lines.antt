@@ -1,13 +1,13 @@
 -- A line that is taken in parts.
 use Rattle.std.proofs.Common.{◌≡◌, ◌≢◌, ℕ, zero, suc, ◌+◌, ◌-◌, ◌<◌, ◌≤◌, ◌==◌, true, false, Bool, List, [], ◌∷◌, ◌++◌, length, take, slice_index, refl, ap, sym, ◌∙◌, subst, arith, append_assoc, append-nil, length-append, Ok, Err}
 use Rattle.std.specs.declared.option.Option.{Option}
-use Rattle.std.specs.Io.KnownBytes.{Consumes, IsAtEnd}
+use Rattle.std.specs.Io.KnownBytes.{Consumes}
 use Rattle.std.proofs.KnownBytes.{Consumes-nil, Consumes-trans}
 use Rattle.iris_base.specs.declared.faults.Fault.{Fault}
 use Rattle.iris_base.specs.declared.faults.Fault.TheVariants.{Failed, Memory}
 use Rattle.iris_cli.specs.declared.line.NextLine.TheVariants as lines
-use Rattle.iris_cli.specs.declared.source.LinePart.TheVariants.{More, Last, End}
-use Rattle.iris_cli.specs.Lines.{LF, NoLf, IsLine, ended, TakesPart, TakesLine}
+use Rattle.iris_cli.specs.declared.source.LinePart.TheVariants.{More, Last}
+use Rattle.iris_cli.specs.Lines.{LF, NoLf, ended, TakesPart, TakesLine}
 
 -- these bytes of a line were taken, and its limit is passed by one byte at most
 pub record LineSoFar (limit : ℕ) (old now : Option (List ℕ)) (line : List ℕ) : Type 0 where

@@ -3,7 +3,7 @@ use Rattle.std.proofs.Common.{◌≡◌, ◌≢◌, ℕ, ◌+◌, ◌<◌, ◌�
 use Rattle.std.specs.List.{AllByRecursion, flat_map}
 use Rattle.std.specs.Io.KnownBytes.{Appends, Consumes}
 use Rattle.std.proofs.KnownBytes.{Appends-nil, Appends-trans}
-use Rattle.iris_base.specs.declared.limits.TheConstants.{MAX_CITY_BYTES, MAX_LINE_BYTES, MAX_SCRIPT_BYTES}
+use Rattle.iris_base.specs.declared.limits.TheConstants.{MAX_LINE_BYTES, MAX_SCRIPT_BYTES}
 use Rattle.iris_json.specs.declared.city.CityError.{CityError}
 use Rattle.iris_json.specs.declared.city.CityError.TheVariants as city_errors
 use Rattle.iris_json.specs.declared.line.LineError.{LineError}
@@ -20,7 +20,6 @@ use Rattle.iris_cli.specs.Halt.{of_city, of_line}
 use Rattle.iris_cli.specs.Lines.{IsLine, ended}
 use Rattle.iris_cli.specs.LineSays.{LineSays, IsToldOf}
 use Rattle.iris_cli.specs.Run.{World, out_lines, brings, is_posted, after, Runs, Starts}
-use Rattle.iris_cli.specs.Allowed.{BringsAllowed}
 use Rattle.iris_cli.specs.Taken.{ScriptState, max_line_bytes, LineFollows, IsWithinLimits, PassesLimit, TakesNext}
 use Rattle.iris_cli.specs.Played.{room_after, AreShort, AreLines, DoneSo, BeginsRefused, WritesFront, IsFault}
 use Rattle.iris_cli.proofs.Allowed.{good_done, brings_allowed}

@@ -1,5 +1,5 @@
 //! What the lines of a script after the first say.
-ghost use Rattle.std.specs.Prelude.{◌≡◌, IfOk, IfErr};
+ghost use Rattle.std.specs.Prelude.{IfOk, IfErr};
 ghost use Rattle.iris_cli.specs.LineSays.{LineSays, RefusesEvent};
 
 use crate::halt::Halt;

@@ -1,7 +1,7 @@
 //! Sinks of bytes that count their faults: one in memory, and one over a writer of the standard
 //! library.
 
-ghost use Rattle.std.specs.Prelude.{◌≡◌, ℕ, List, Some, ◌≤◌, ◌<◌, length, [], ◌∷◌, ◌++◌, IfOk};
+ghost use Rattle.std.specs.Prelude.{◌≡◌, ℕ, List, Some, ◌≤◌, ◌<◌, length, [], IfOk};
 ghost use Rattle.std.specs.Io.KnownBytes.{WriteAppends};
 ghost use Rattle.std.specs.declared.option.Option.{Option};
 ghost use Rattle.iris_base.specs.Outside.{HasCause, Puts};

@@ -1,7 +1,7 @@
 //! Sources of bytes that count their faults: one in memory, and one over a reader of the standard
 //! library.
 
-ghost use Rattle.std.specs.Prelude.{◌≡◌, ℕ, List, Some, None, true, false, take, drop, ◌≤◌, ◌<◌, ◌^◌, length, [], ◌∷◌, ◌++◌, IfOk, IfErr};
+ghost use Rattle.std.specs.Prelude.{◌≡◌, ℕ, List, Some, None, true, false, take, drop, ◌≤◌, ◌<◌, length, [], IfOk, IfErr};
 ghost use Rattle.std.specs.Io.{ReadsAtMost};
 ghost use Rattle.std.specs.Io.KnownBytes.{ReadConsumes};
 ghost use Rattle.std.specs.IoError.{error_kind};

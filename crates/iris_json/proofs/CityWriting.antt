@@ -1,11 +1,9 @@
 -- The written line of a city reads as that city.
-use Rattle.std.proofs.Common.{◌≡◌, ℕ, zero, suc, ◌+◌, ◌≤◌, Bool, true, false, true≢false, ◌||◌, List, [], ◌∷◌, ◌++◌, length, map, codes, max, inl, Less, Greater, nat_cmp, bytes_eq, refl, ap, sym, ◌∙◌, subst, arith, append_assoc, append-nil}
-use Rattle.std.specs.Prelude.{⊤}
+use Rattle.std.proofs.Common.{◌≡◌, ℕ, zero, suc, ◌+◌, ◌≤◌, Bool, true, false, true≢false, ◌||◌, List, [], ◌∷◌, length, map, codes, max, inl, Less, nat_cmp, bytes_eq, refl, ap, sym, ◌∙◌, subst, arith}
 use Rattle.std.specs.Cmp.Lexicographic.{slice_cmp}
-use Rattle.std.specs.List.{AllByRecursion, IsDistinct, list_any}
+use Rattle.std.specs.List.{AllByRecursion, list_any}
 use Rattle.std.specs.List.Sorted.{IsStrictlySortedBy}
 use Rattle.std.specs.Map.{keys_of}
-use Rattle.std.specs.Ordering.{ordering_reverse, is_eq}
 use Rattle.std.specs.Str.{IsUtf8}
 use Rattle.std.proofs.Math.Nat.{max-le}
 use Rattle.std.proofs.lemmas.Map.Views.{Contains-from_any}
@@ -22,7 +20,6 @@ use Rattle.iris_base.specs.declared.letters.TheConstants.{DASH}
 use Rattle.iris_base.specs.declared.letters.Letters.TheVariants.{Lower, LowerOrDigit, Word, Letter, WordOrDash}
 use Rattle.iris_base.specs.declared.name.Label.{Label}
 use Rattle.iris_base.specs.Forms.{IsWord, IsKind, IsAgentId}
-use Rattle.iris_base.specs.NameOrder.{label_cmp, label_eq, labels_total, labels_ties}
 use Rattle.iris_base.specs.NameText.{label_text}
 use Rattle.iris_base.proofs.Words.{word_ascii}
 use Rattle.iris_tree.specs.declared.local.Local.{Local}

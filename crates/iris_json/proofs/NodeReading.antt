@@ -4,7 +4,7 @@ use Rattle.std.specs.Cmp.Lexicographic.{slice_cmp}
 use Rattle.std.specs.Ordering.{match_ordering}
 use Rattle.std.proofs.lemmas.List.{take_more, take_all}
 use Rattle.serde_json.specs.declared.value.Value.{Value}
-use Rattle.serde_json.specs.Data.{Data, string, object, Members, no_members, member, Items, no_items, item, depth, items_depth, members_depth}
+use Rattle.serde_json.specs.Data.{Data, object, Members, no_members, member, Items, no_items, item, depth, items_depth, members_depth}
 use Rattle.serde_json.specs.Find.{as_object, get_member}
 use Rattle.serde_json.specs.View.{view, items_view}
 use Rattle.iris_base.specs.declared.name.Label.{Label}

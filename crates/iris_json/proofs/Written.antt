@@ -7,7 +7,6 @@ use Rattle.json.specs.Tree.{items_tokens, members_tokens}
 use Rattle.serde_json.specs.Data.{Data, string, array}
 use Rattle.serde_json.specs.View.{items_of}
 use Rattle.serde_json.specs.Written.{items_outline, members_outline}
-use Rattle.iris_base.specs.declared.name.Label.{Label}
 use Rattle.iris_base.specs.NameText.{name_text}
 use Rattle.iris_tree.specs.LocalText.{attrs_data, plain_data, value_tokens}
 use Rattle.iris_tree.specs.Universe.{Node, node, Nodes, no_nodes, nodes, label_of, local_of, list_of, children_of}
@@ -15,7 +14,7 @@ use Rattle.iris_tree.specs.declared.item.Item.{Item}
 use Rattle.iris_json.specs.declared.city.City.{City}
 use Rattle.iris_json.specs.CityLine.{texts_data}
 use Rattle.iris_json.specs.CityText.{without_plain, items_without_plain, places_data, city_data}
-use Rattle.iris_json.specs.Render.{node_data, nodes_data, element_data, item_data, items_data}
+use Rattle.iris_json.specs.Render.{node_data, nodes_data, element_data, item_data}
 use Rattle.iris_json.specs.declared.row.Field.{Field}
 use Rattle.iris_json.specs.Rows.{members_of, row_data, field_data, fields_of}
 

@@ -4,7 +4,6 @@ use Rattle.json.specs.Token.{Token}
 use Rattle.serde_json.specs.Data.{Data, string, array, object, Items, no_items, item, no_members, member}
 use Rattle.serde_json.specs.View.{items_of}
 use Rattle.serde_json.specs.Written.{compact_text}
-use Rattle.iris_base.specs.declared.name.Label.{Label}
 use Rattle.iris_base.specs.NameText.{name_text}
 use Rattle.iris_tree.specs.Universe.{Node, node, Nodes, no_nodes, nodes, label_of, local_of}
 use Rattle.iris_tree.specs.Document.{Place}

@@ -16,7 +16,9 @@ use crate::extent::Extent;
 use crate::keys::{Members, has_only, list_at, read_value, sole_at, value_at};
 use crate::node::read_node;
 use crate::out::Which;
-use iris_tree::{AgentId, Kind, Label, MAX_CITY_BYTES, MAX_KINDS, Mem, Name, Sequence, Tree, name_text};
+use iris_tree::{
+    AgentId, Kind, Label, MAX_CITY_BYTES, MAX_KINDS, Mem, Name, Sequence, Tree, name_text,
+};
 use serde_json::Value;
 use std::alloc::Global;
 

@@ -181,13 +181,7 @@ fn write_post<'a>(
 }
 
 // The line of a refused request, with the one number that tells more.
-fn write_refused(
-    alloc: Global,
-    key: &str,
-    told: u64,
-    refused: &str,
-    request: u64,
-) -> Mem<Vec<u8>>
+fn write_refused(alloc: Global, key: &str, told: u64, refused: &str, request: u64) -> Mem<Vec<u8>>
     ensures { IfOk result (λ text. text.items ≡ compact_text (row_data (refused_row key.now told refused.now request))) }
 {
     let row = [

@@ -30,8 +30,7 @@ fn a_city(rt: HostRuntime) -> Result<(), Fail> {
 #[test]
 fn a_line(rt: HostRuntime) -> Result<(), Fail> {
     let alloc = rt.alloc();
-    let line =
-        r#"{"do":"update","name":"space-1.city-o","no":3,"change":[["attr","free","\"x"]]}"#;
+    let line = r#"{"do":"update","name":"space-1.city-o","no":3,"change":[["attr","free","\"x"]]}"#;
     let Line::Update { name, no, changes } = read_line(alloc, line.as_bytes())? else {
         assert!(rt; false);
         return Ok(());
@@ -72,7 +71,10 @@ fn an_answer(rt: HostRuntime) -> Result<(), Fail> {
     let alloc = rt.alloc();
     let mut answer = Sequence::new(alloc);
     answer.push(note(alloc)?)?;
-    assert_eq!(rt; str::from_utf8(&write_items(alloc, answer.as_slice())?)?, ITEMS);
+    assert_eq!(rt;
+        str::from_utf8(&write_items(alloc, answer.as_slice())?)?,
+        ITEMS
+    );
     let mut cites = Sequence::new(alloc);
     cites.push(Cite {
         name: Name::document(alloc),
@@ -85,9 +87,13 @@ fn an_answer(rt: HostRuntime) -> Result<(), Fail> {
         newest: false,
         request: 0,
     };
-    let expected =
-        format!(in alloc; "{{\"answer\":{ITEMS},\"cites\":[[\"\",2,1500]],\"newest\":false,\"request\":0}}")?;
-    assert_eq!(rt; str::from_utf8(&write_out(alloc, &out)?)?, expected.as_str());
+    let expected = format!(in alloc;
+        "{{\"answer\":{ITEMS},\"cites\":[[\"\",2,1500]],\"newest\":false,\"request\":0}}"
+    )?;
+    assert_eq!(rt;
+        str::from_utf8(&write_out(alloc, &out)?)?,
+        expected.as_str()
+    );
     Ok(())
 }
 

@@ -3,7 +3,7 @@ ghost use Rattle.std.specs.Prelude.{◌≡◌, [], true, drop, IfOk, OnOk};
 ghost use Rattle.iris_fragment.specs.declared.piece.Level.{Level};
 ghost use Rattle.iris_xpath.specs.ThinQuery.{thin_of};
 ghost use Rattle.iris_need.specs.Needs.{is_under, missing_of, support_of};
-ghost use Rattle.iris_need.specs.Program.{gather, own_look, last_label, program};
+ghost use Rattle.iris_need.specs.Program.{gather, own_look, program};
 ghost use Rattle.iris_need.specs.ThinProgram.{thin_enter, thin_from};
 ghost use Rattle.iris_need.specs.Starts.{steps_entered, top_tests, top_enter};
 ghost use Rattle.iris_need.specs.Collected.{collected};

@@ -1,11 +1,10 @@
 -- The items to which a walk leads are those at the selected places.
 use Rattle.std.proofs.Common.{◌≡◌, Bool, true, false, cond, List, [], ◌∷◌, ◌++◌, map, refl, ap, sym, ◌∙◌, append-nil, Option, Some, None, option_and_then}
-use Rattle.std.specs.List.{filter_map}
 use Rattle.std.proofs.lemmas.List.{map-append}
 use Rattle.std.proofs.lemmas.List.Elements.{filter_map-append}
 use Rattle.iris_base.specs.declared.name.Label.{Label}
 use Rattle.iris_base.specs.NameOrder.{label_eq, labels_equiv}
-use Rattle.iris_tree.specs.Universe.{Node, node, Nodes, no_nodes, nodes, list_of, label_of, children_of, child_of, part_at, node_at, IsOrdered, AreOrdered}
+use Rattle.iris_tree.specs.Universe.{Node, node, Nodes, no_nodes, nodes, label_of, children_of, child_of, part_at, node_at, IsOrdered, AreOrdered}
 use Rattle.iris_tree.specs.Document.{Place, place_of, a_node}
 use Rattle.iris_tree.specs.declared.item.Item.{Item}
 use Rattle.iris_tree.specs.Items.{item_at, items_at}

@@ -1,5 +1,4 @@
 //! Places in a document.
-ghost use Rattle.std.specs.Prelude.{◌≡◌, IfOk};
 
 use iris_tree::{Mem, Name, Sequence};
 

@@ -1,6 +1,5 @@
 //! The walk that finds what a query selects.
-ghost use Rattle.std.specs.Prelude.{◌≡◌, ◌++◌, ◌∷◌, true, map, Some, IfOk, IfSome, OnOk, codes};
-ghost use Rattle.std.specs.Str.{bytes_eq};
+ghost use Rattle.std.specs.Prelude.{◌≡◌, ◌++◌, ◌∷◌, true, map, Some, IfOk, IfSome, OnOk};
 ghost use Rattle.iris_tree.specs.Universe.{nodes_of, children_of, IsOrdered};
 ghost use Rattle.iris_tree.specs.Document.{a_node};
 ghost use Rattle.iris_tree.specs.Items.{items_at};

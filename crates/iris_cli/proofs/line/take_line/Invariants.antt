@@ -1,4 +1,4 @@
-use Rattle.std.proofs.Common.{◌≤◌, ◌+◌, ◌-◌, length, vec_len}
+use Rattle.std.proofs.Common.{◌≤◌, ◌+◌, ◌-◌, vec_len}
 use Rattle.iris_cli.proofs.Lines.{LineSoFar}
 use Rattle.iris_cli.proofs.line.take_line.Given as goal
 

@@ -1,9 +1,8 @@
-use Rattle.std.proofs.Common.{◌≡◌, ◌∷◌, ◌++◌, ◌∙◌, refl, ap, append_assoc, take, take_all}
-use Rattle.json.specs.Token.{Token}
+use Rattle.std.proofs.Common.{◌≡◌, ◌∙◌, refl, ap, append_assoc, take_all}
 use Rattle.json.specs.Print.{print}
 use Rattle.iris_tree.specs.LocalText.{value_tokens}
 use Rattle.iris_tree.proofs.ValueTokens.{printed}
-use Rattle.iris_json.specs.Rows.{field_data, fields_of, row_data}
+use Rattle.iris_json.specs.Rows.{fields_of, row_data}
 use Rattle.iris_json.proofs.Written.{member_tokens, fields_more, row_written}
 use Rattle.iris_json.proofs.row.write_row.Goals as goal
 

@@ -1,9 +1,8 @@
 use Rattle.std.proofs.Common.{◌≡◌, ◌+◌, length, slice_get, Some, rules}
-use Rattle.iris_tree.specs.Universe.{node_at, local_of}
-use Rattle.iris_book.specs.Book.{updates_of, updates_in}
-use Rattle.iris_book.specs.Log.{entries_of}
+use Rattle.iris_tree.specs.Universe.{node_at}
+use Rattle.iris_book.specs.Book.{updates_of}
 use Rattle.iris_book.proofs.LogEntries.{updates_in-entries_of}
-use Rattle.iris_book.proofs.Values.{IsNewest, newest_updated, newest_at_start, newest_in}
+use Rattle.iris_book.proofs.Values.{newest_updated, newest_at_start, newest_in}
 use Rattle.iris_book.proofs.book.Book.newest.Goals as goal
 
 pub returns-in-Some-clause-version : goal.returns-in-Some-clause-version

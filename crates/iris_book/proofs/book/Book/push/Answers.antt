@@ -1,4 +1,4 @@
-use Rattle.std.proofs.Common.{◌≡◌, ◌∙◌, sym, ap, subst}
+use Rattle.std.proofs.Common.{◌∙◌, sym, ap, subst}
 use Rattle.iris_book.specs.Book.{History, today, update_count}
 use Rattle.iris_book.specs.Entering.{KeepsEarlier}
 use Rattle.iris_book.proofs.Entering.{today_entry, newest_entry, keeps_entry}

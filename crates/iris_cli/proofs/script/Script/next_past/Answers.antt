@@ -1,4 +1,4 @@
-use Rattle.std.proofs.Common.{◌≡◌, ◌≢◌, ap, ◌∙◌, sym, arith}
+use Rattle.std.proofs.Common.{◌≢◌, ap, ◌∙◌, sym, arith}
 use Rattle.iris_cli.specs.declared.line.NextLine.TheVariants as lines
 use Rattle.iris_cli.specs.Taken.{ScriptState}
 use Rattle.iris_cli.proofs.Taken.{takes_past_script, takes_past_lines}

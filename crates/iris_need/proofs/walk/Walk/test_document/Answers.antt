@@ -4,7 +4,7 @@ use Rattle.iris_xpath.specs.ThinQuery.{thin_of}
 use Rattle.iris_xpath.specs.ThinQuery as thin
 use Rattle.iris_need.specs.Starts.{top_tests}
 use Rattle.iris_need.specs.Collected.{collected}
-use Rattle.iris_need.proofs.Collected.{collected_give, empty_is}
+use Rattle.iris_need.proofs.Collected.{collected_give}
 use Rattle.iris_need.proofs.Starts.{has_equality, top_none, top_last}
 use Rattle.iris_need.proofs.walk.Walk.test_document.Goals as goal
 

@@ -1,4 +1,4 @@
-use Rattle.std.proofs.Common.{◌≡◌, ◌∙◌, sym, ap, refl, List, ℕ, Some}
+use Rattle.std.proofs.Common.{◌∙◌, sym, ap, refl, List, ℕ, Some}
 use Rattle.iris_tree.specs.Attrs.{Pairs, value_of}
 use Rattle.iris_tree.proofs.AttrPlaces.{stands_at_same, would_stand_at_same, value_of-there, value_of-absent}
 use Rattle.iris_tree.proofs.attrs.Attrs.get.Goals as goal

@@ -1,4 +1,4 @@
-use Rattle.std.proofs.Common.{◌≡◌, ◌∙◌, sym, ap, subst, List, ℕ}
+use Rattle.std.proofs.Common.{◌∙◌, sym, ap, subst, List, ℕ}
 use Rattle.std.specs.Prelude.{slice_set}
 use Rattle.iris_tree.specs.Attrs.{Pairs, with_attr, AreInNameOrder}
 use Rattle.iris_tree.proofs.AttrPlaces.{stands_at_same, would_stand_at_same, with_attr-there, with_attr-absent, ordered_with_value, ordered_with_new}

@@ -1,4 +1,4 @@
-use Rattle.std.proofs.Common.{◌≡◌, ◌∙◌, sym, ap, subst, is_some}
+use Rattle.std.proofs.Common.{◌∙◌, sym, ap, subst, is_some}
 use Rattle.iris_tree.specs.Attrs.{Pairs, value_of, without_attr, AreInNameOrder}
 use Rattle.iris_tree.proofs.AttrPlaces.{stands_at_same, would_stand_at_same, value_of-there, value_of-absent, without_attr-there, without_attr-absent, ordered_without}
 use Rattle.iris_tree.proofs.attrs.Attrs.remove.Goals as goal
