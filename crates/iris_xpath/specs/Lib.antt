@@ -1,6 +1,7 @@
 pub mod Follows
 pub mod GivesQuery
 pub mod Grammar
+pub mod Looks
 pub mod Meaning
 pub mod PlaceOrder
 pub mod Places
