@@ -7,7 +7,7 @@ use Rattle.iris_base.specs.declared.error.NameError.TheVariants as names
 use Rattle.iris_base.specs.Stops.{StopsAt}
 use Rattle.iris_base.specs.NameText.{IsNameText}
 
--- the error is just where the text goes off the form, and never want of memory
+-- the error is just where the text goes off the form, and never running out of memory
 abbrev pub Refuses : (List ℕ → Type 0) → List ℕ → TextError → Type 0
 Refuses P bytes (BadText at) = StopsAt P bytes at
 Refuses P bytes Memory = ⊥

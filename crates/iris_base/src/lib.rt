@@ -1,4 +1,4 @@
-//! What every crate of iris shares: want of memory, lists, texts, labels and names.
+//! What every crate of iris shares: running out of memory, lists, texts, labels and names.
 #![tactic(auto)]
 
 mod attribute;
@@ -24,10 +24,11 @@ pub use error::{NameError, TextError};
 pub use faults::{Fault, count_fault};
 pub use letters::{DASH, DOT, Form, Letters, UNDERSCORE};
 pub use limits::{
-    MAX_AGENT_BYTES, MAX_ATTRIBUTES, MAX_CHANGES, MAX_CHILDREN, MAX_CITY_BYTES, MAX_ID_BYTES,
-    MAX_KIND_BYTES, MAX_KINDS, MAX_LABELS, MAX_LINE_BYTES, MAX_LINES, MAX_LOCAL_BYTES, MAX_NODES,
-    MAX_NUMBER, MAX_OPERANDS, MAX_QUERY_BYTES, MAX_SCRIPT_BYTES, MAX_STEPS, MAX_TAG_BYTES,
-    MAX_TRIES,
+    MAX_AGENT_BYTES, MAX_ATTRIBUTES, MAX_CHANGES, MAX_CHILDREN, MAX_CITY_BYTES, MAX_DIGITS,
+    MAX_ID_BYTES, MAX_KIND_BYTES, MAX_KINDS, MAX_LABELS, MAX_LINE_BYTES, MAX_LINES,
+    MAX_LOCAL_BYTES, MAX_NESTING, MAX_NODES, MAX_NUMBER, MAX_OPERANDS, MAX_PARENTHESES,
+    MAX_PATH_PARTS, MAX_PLAIN, MAX_PLAIN_DEPTH, MAX_QUERY_BYTES, MAX_SCRIPT_BYTES, MAX_STEPS,
+    MAX_TAG_BYTES, MAX_TRIES,
 };
 pub use memory::{Mem, Memory};
 pub use name::{Label, Name};

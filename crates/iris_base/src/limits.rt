@@ -57,5 +57,23 @@ pub const MAX_STEPS: usize = 32;
 /// The greatest number of operands of a query.
 pub const MAX_OPERANDS: usize = 64;
 
+/// The greatest number of digits of a number in a query, as they are written.
+pub const MAX_DIGITS: usize = 18;
+
+/// The greatest number of parts of a path in a predicate, its attribute counted.
+pub const MAX_PATH_PARTS: usize = 16;
+
+/// How deep parentheses, those of `not` among them, may be nested inside one predicate.
+pub const MAX_PARENTHESES: usize = 16;
+
+/// How deep predicates with paths may be nested: the greatest nesting depth of a query.
+pub const MAX_NESTING: usize = 4;
+
+/// The greatest number of plain elements of a node, at any depth.
+pub const MAX_PLAIN: u64 = 64;
+
+/// How deep plain elements may be nested; one that has no kids is nested one deep.
+pub const MAX_PLAIN_DEPTH: u64 = 4;
+
 /// How often a call that is interrupted is made in all.
 pub const MAX_TRIES: u32 = 1_000;

@@ -19,11 +19,12 @@ pub use change::{Change, ChangeError};
 pub use count::changes_len;
 pub use iris_base::{
     AgentForm, AgentId, Cite, DASH, DOT, Fault, Form, Id, IdForm, Kind, KindForm, Label, Letters,
-    MAX_AGENT_BYTES, MAX_ATTRIBUTES, MAX_CHANGES, MAX_CHILDREN, MAX_CITY_BYTES, MAX_ID_BYTES,
-    MAX_KIND_BYTES, MAX_KINDS, MAX_LABELS, MAX_LINE_BYTES, MAX_LINES, MAX_LOCAL_BYTES, MAX_NODES,
-    MAX_NUMBER, MAX_OPERANDS, MAX_QUERY_BYTES, MAX_SCRIPT_BYTES, MAX_STEPS, MAX_TAG_BYTES,
-    MAX_TRIES, Mem, Memory, Name, NameError, Sequence, Short, Spelled, Tag, TagForm, Text,
-    TextError, UNDERSCORE, count_fault, is_id, name_text, read_name,
+    MAX_AGENT_BYTES, MAX_ATTRIBUTES, MAX_CHANGES, MAX_CHILDREN, MAX_CITY_BYTES, MAX_DIGITS,
+    MAX_ID_BYTES, MAX_KIND_BYTES, MAX_KINDS, MAX_LABELS, MAX_LINE_BYTES, MAX_LINES,
+    MAX_LOCAL_BYTES, MAX_NESTING, MAX_NODES, MAX_NUMBER, MAX_OPERANDS, MAX_PARENTHESES,
+    MAX_PATH_PARTS, MAX_PLAIN, MAX_PLAIN_DEPTH, MAX_QUERY_BYTES, MAX_SCRIPT_BYTES, MAX_STEPS,
+    MAX_TAG_BYTES, MAX_TRIES, Mem, Memory, Name, NameError, Sequence, Short, Spelled, Tag, TagForm,
+    Text, TextError, UNDERSCORE, count_fault, is_id, name_text, read_name,
 };
 pub use item::{Element, Item};
 pub use json_text::JsonText;
