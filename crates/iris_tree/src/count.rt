@@ -96,6 +96,10 @@ impl Change {
                 counter.string("drop");
                 counter.string(name.as_str());
             }
+            Change::Put { plain } => {
+                counter.string("put");
+                plain.count(counter);
+            }
         }
         counter.end_array();
     }

@@ -9,10 +9,12 @@ mod item;
 mod json_text;
 mod local;
 mod plain;
+mod plain_counts;
 #[cfg(test)]
 mod tests;
 mod tree;
 mod write;
+mod written;
 
 pub use attrs::Attrs;
 pub use change::{Change, ChangeError};
