@@ -1,3 +1,5 @@
+pub mod Canonical
+pub mod TextOrder
 pub mod Rising
 pub mod AttrPlaces
 pub mod Counted

@@ -26,16 +26,9 @@ impl Plain {
         ensures order { IfOk result (λ ordered. IsTextOrder elements.items ordered) }
         ensures is { IfOk result (λ ordered. ordered ≡ in_text_order elements.items) }
     {
-        let mut written = Vec::with_capacity(*elements.allocator(), elements.len())?;
-        for element in elements {
-            written.push(Written::new(element)?)?;
-        }
+        let mut written = Written::of_all(elements)?;
         written.sort_by(|a, b| a.text().cmp(b.text()))?;
-        let mut ordered = Sequence::new(*written.allocator());
-        for element in written {
-            ordered.push(element.into_plain())?;
-        }
-        Ok(ordered)
+        Written::into_sequence(written)
     }
 
     /// The element in canonical form, by the same allocator: at every depth siblings stand in the order

@@ -4,7 +4,7 @@ ghost use Rattle.iris_tree.specs.PlainOrder.{plain_text};
 
 use crate::json_text::JsonText;
 use crate::plain::Plain;
-use iris_base::Mem;
+use iris_base::{Mem, Sequence};
 use std::marker::Model;
 
 /// A plain element with its JSON text, which is made once. Contracts see the element.
@@ -53,5 +53,25 @@ impl Written {
     {
         let Written { plain, .. } = self;
         plain
+    }
+
+    pub fn of_all(elements: Vec<Plain>) -> Mem<Vec<Written>>
+        ensures { IfOk result (λ written. written.items ≡ elements.items) }
+    {
+        let mut written = Vec::with_capacity(*elements.allocator(), elements.len())?;
+        for element in elements {
+            written.push(Written::new(element)?)?;
+        }
+        Ok(written)
+    }
+
+    pub fn into_sequence(written: Vec<Written>) -> Mem<Sequence<Plain>>
+        ensures { IfOk result (λ elements. elements ≡ written.items) }
+    {
+        let mut elements = Vec::with_capacity(*written.allocator(), written.len())?;
+        for element in written {
+            elements.push(element.into_plain())?;
+        }
+        Ok(Sequence::from_vec(elements))
     }
 }
