@@ -179,3 +179,20 @@ same_order (x ∷ xs) (y ∷ ys) rise_x rise_y same =
 pub sort_is : (given sorted : List Plain) → AreInTextOrder sorted → IsStableBy is_before given sorted → sorted ≡ in_text_order given
 sort_is given sorted rise stable =
     same_order sorted (in_text_order given) (rise_from sorted rise) (rise_ordered given) (λ z. stable z ∙ sym (stable_ordered z given))
+
+-- elements that are in the order of their texts stay as they are
+pub already_ordered : (ps : List Plain) → AreInTextOrder ps → in_text_order ps ≡ ps
+already_ordered ps rise = sym (sort_is ps ps rise (λ x. refl))
+
+length-inserted : (p : Plain) (qs : List Plain) → length (insert_plain p qs) ≡ suc (length qs)
+length-inserted p [] = refl
+length-inserted p (q ∷ qs) = by (is_before q p) (length-inserted p qs)
+  where
+    by : (b : Bool) → length (insert_plain p qs) ≡ suc (length qs) → length (if b then q ∷ insert_plain p qs else p ∷ q ∷ qs) ≡ suc (length (q ∷ qs))
+    by false rest = refl
+    by true rest = ap suc rest
+
+-- they are as many as before
+pub length-in_text_order : (ps : List Plain) → length (in_text_order ps) ≡ length ps
+length-in_text_order [] = refl
+length-in_text_order (p ∷ ps) = length-inserted p (in_text_order ps) ∙ ap suc (length-in_text_order ps)

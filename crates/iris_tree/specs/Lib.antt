@@ -5,6 +5,7 @@ pub mod Items
 pub mod LocalPut
 pub mod LocalText
 pub mod NamesId
+pub mod NamesKind
 pub mod NodeCode
 pub mod PlainCounts
 pub mod PlainOrder

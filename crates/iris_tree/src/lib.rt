@@ -7,6 +7,7 @@ mod count;
 mod counter;
 mod item;
 mod json_text;
+mod kinds;
 mod local;
 mod plain;
 mod plain_counts;
