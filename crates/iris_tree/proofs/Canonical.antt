@@ -1,22 +1,16 @@
 -- Canonical plain elements: the form of one, and what a change of local information keeps.
-use Rattle.std.proofs.Common.{◌≡◌, ℕ, zero, suc, ◌+◌, Bool, true, false, cond, if◌then◌else◌, List, [], ◌∷◌, map, Option, Some, None, Ok, Err, refl, sym, ◌∙◌, ap, subst, is_some}
-use Rattle.std.specs.Option.{option_map_or}
+use Rattle.std.proofs.Common.{◌≡◌, ℕ, zero, suc, Bool, true, false, cond, List, [], ◌∷◌, map, Option, Some, None, refl, sym, ◌∙◌, ap, subst}
 use Rattle.std.specs.Prelude.{option_and_then}
 use Rattle.std.specs.List.{filter, AllByRecursion, slice_get}
 use Rattle.std.proofs.lemmas.List.Elements.{All-from_recursion, recursion_from_All}
-use Rattle.iris_base.specs.Attribute.{is_id}
-use Rattle.iris_tree.specs.declared.local.Local.{Local}
 use Rattle.iris_tree.specs.declared.plain.Plain.{Plain}
 use Rattle.iris_tree.specs.declared.plain.Plain.TheOpen.{Plain-F}
 use Rattle.iris_tree.specs.declared.plain.Plain.TheViews.{out-Plain, out-roll-Plain}
 use Rattle.iris_tree.specs.declared.plain.Plain.TheFolds.{fold_out-Plain}
-use Rattle.iris_tree.specs.declared.change.Change.{Change}
-use Rattle.iris_tree.specs.declared.change.Change.TheVariants.{Attr, Drop, Put}
-use Rattle.iris_tree.specs.Attrs.{value_of, without_attr}
-use Rattle.iris_tree.specs.Changes.{fits, within_limits, with_plain, apply_change, apply_from, has_other_tag}
+use Rattle.iris_tree.specs.Changes.{with_plain, has_other_tag}
 use Rattle.iris_tree.specs.Document.{Place, position, label, a_plain, below_plain}
-use Rattle.iris_tree.specs.NamesId.{names_id}
 use Rattle.iris_tree.specs.PlainOrder.{AreInTextOrder, IsCanonicalPlain, AreCanonical, IsCanonical, in_text_order, canonical_step, canonical_plain}
+use Rattle.iris_tree.proofs.Changed.{IsKept}
 use Rattle.iris_tree.proofs.TextOrder.{all_ordered, ordered_rises}
 
 -- ---- the canonical form of an element
@@ -60,9 +54,10 @@ is_canonical p place q there = canonical_below place p q there
 
 -- ---- changes
 
-all_kept : (P : Plain → Type 0) (test : Plain → Bool) (ps : List Plain) → AllByRecursion P ps → AllByRecursion P (filter test ps)
-all_kept P test [] each = tt
-all_kept P test (p ∷ ps) each = by (test p) (all_kept P test ps each.1)
+-- what holds of each element holds of those that pass a test
+pub all_filtered : (P : Plain → Type 0) (test : Plain → Bool) (ps : List Plain) → AllByRecursion P ps → AllByRecursion P (filter test ps)
+all_filtered P test [] each = tt
+all_filtered P test (p ∷ ps) each = by (test p) (all_filtered P test ps each.1)
   where
     by : (b : Bool) → AllByRecursion P (filter test ps) → AllByRecursion P (cond b (p ∷ filter test ps) (filter test ps))
     by false rest = rest
@@ -71,40 +66,9 @@ all_kept P test (p ∷ ps) each = by (test p) (all_kept P test ps each.1)
 put_canonical : (ps : List Plain) (p : Plain) → AreCanonical ps → AreCanonical (with_plain ps p)
 put_canonical ps p are =
     let others = filter (has_other_tag (out-Plain p).tag) ps in
-    let each : AllByRecursion IsCanonicalPlain (canonical_plain p ∷ others) = (is_canonical p, all_kept IsCanonicalPlain (has_other_tag (out-Plain p).tag) ps (recursion_from_All IsCanonicalPlain ps are.1)) in
+    let each : AllByRecursion IsCanonicalPlain (canonical_plain p ∷ others) = (is_canonical p, all_filtered IsCanonicalPlain (has_other_tag (out-Plain p).tag) ps (recursion_from_All IsCanonicalPlain ps are.1)) in
     (ordered_rises (canonical_plain p ∷ others), All-from_recursion IsCanonicalPlain (with_plain ps p) (all_ordered IsCanonicalPlain (canonical_plain p ∷ others) each))
 
-within_same : (l changed : Local) → within_limits l ≡ Some changed → l ≡ changed
-within_same l changed done = by (fits l) done
-  where
-    by : (b : Bool) → (if b then Some l else None) ≡ Some changed → l ≡ changed
-    by false h = absurd (cc)
-    by true h = cc
-
-made_canonical : (l made : Local) (bad : Bool) (changed : Local) → (if bad then None else within_limits made) ≡ Some changed → IsCanonical made → IsCanonical changed
-made_canonical l made true changed done are = absurd (cc)
-made_canonical l made false changed done are = subst (λ (m : Local). IsCanonical m) (within_same made changed done) are
-
--- a change keeps local information canonical
-change_canonical : (l : Local) (c : Change) (changed : Local) → apply_change l c ≡ Some changed → IsCanonical l → IsCanonical changed
-change_canonical l (Attr name value) changed done are = made_canonical l _ (is_id name) changed done are
-change_canonical l (Put p) changed done are = made_canonical l _ (names_id p) changed done (put_canonical l.plain p are)
-change_canonical l (Drop name) changed done are = by (is_id name) (is_some (value_of l.attrs name)) done
-  where
-    by : (bad there : Bool) → (if bad then None else (if there then within_limits (record { attrs = without_attr l.attrs name; plain = l.plain }) else None)) ≡ Some changed → IsCanonical changed
-    by true there h = absurd (cc)
-    by false false h = absurd (cc)
-    by false true h = made_canonical l _ false changed h are
-
-changes_canonical_from : (cs : List Change) (at : ℕ) (l changed : Local) → apply_from at l cs ≡ Ok changed → IsCanonical l → IsCanonical changed
-changes_canonical_from [] at l changed done are = let same : l ≡ changed = cc in subst (λ (m : Local). IsCanonical m) same are
-changes_canonical_from (c ∷ cs) at l changed done are = by (apply_change l c) refl done (λ next. changes_canonical_from cs (at + 1) next changed)
-  where
-    by : (o : Option Local) → apply_change l c ≡ o → option_map_or (λ next. apply_from (at + 1) next cs) o (Err at) ≡ Ok changed
-        → ((next : Local) → apply_from (at + 1) next cs ≡ Ok changed → IsCanonical next → IsCanonical changed) → IsCanonical changed
-    by None made h rest = absurd (cc)
-    by (Some next) made h rest = rest next h (change_canonical l c next made are)
-
 -- changes keep local information canonical
-pub changes_canonical : (l : Local) (cs : List Change) (changed : Local) → apply_from 0 l cs ≡ Ok changed → IsCanonical l → IsCanonical changed
-changes_canonical l cs changed = changes_canonical_from cs 0 l changed
+pub canonical_kept : IsKept IsCanonical
+canonical_kept = record { attr = λ l name value other are. are; drop = λ l name are. are; put = λ l p none are. put_canonical l.plain p are }

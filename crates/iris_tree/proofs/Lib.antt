@@ -1,3 +1,5 @@
+pub mod Changed
+pub mod NoIds
 pub mod Canonical
 pub mod TextOrder
 pub mod Rising

@@ -2,6 +2,7 @@
 ghost use Rattle.std.specs.Prelude.{◌≡◌, IfOk, IfErr, OnOk, Some, None, Ok, if◌then◌else◌};
 ghost use Rattle.std.specs.List.{filter};
 ghost use Rattle.iris_tree.specs.Changes.{fits, plains_fit, has_other_tag, with_plain, apply_change, apply_changes, RefusesChanges};
+ghost use Rattle.iris_tree.specs.NamesId.{NamesNoId};
 ghost use Rattle.iris_tree.specs.PlainOrder.{IsCanonical};
 
 use crate::local::Local;
@@ -148,6 +149,7 @@ impl Local {
     pub fn change(&self, changes: &[Change]) -> Result<Local, ChangeError>
         ensures ok { IfOk result (λ changed. apply_changes self.now changes.now ≡ Ok changed) }
         ensures canonical { IsCanonical self.now → IfOk result IsCanonical }
+        ensures ids { NamesNoId self.now → IfOk result NamesNoId }
         ensures err { IfErr result (RefusesChanges self.now changes.now) }
     {
         let mut local = self.copy()?;
