@@ -5,8 +5,9 @@ use Rattle.std.specs.List.{filter, AllByRecursion, slice_get}
 use Rattle.std.proofs.lemmas.List.Elements.{All-from_recursion, recursion_from_All}
 use Rattle.iris_tree.specs.declared.plain.Plain.{Plain}
 use Rattle.iris_tree.specs.declared.plain.Plain.TheOpen.{Plain-F}
-use Rattle.iris_tree.specs.declared.plain.Plain.TheViews.{out-Plain, out-roll-Plain}
+use Rattle.iris_tree.specs.declared.plain.Plain.TheViews.{out-Plain, roll-Plain, out-roll-Plain}
 use Rattle.iris_tree.specs.declared.plain.Plain.TheFolds.{fold_out-Plain}
+use Rattle.iris_tree.specs.Attrs.{Pairs}
 use Rattle.iris_tree.specs.Changes.{with_plain, has_other_tag}
 use Rattle.iris_tree.specs.Document.{Place, position, label, a_plain, below_plain}
 use Rattle.iris_tree.specs.PlainOrder.{AreInTextOrder, IsCanonicalPlain, AreCanonical, IsCanonical, in_text_order, canonical_step, canonical_plain}
@@ -14,6 +15,12 @@ use Rattle.iris_tree.proofs.Changed.{IsKept}
 use Rattle.iris_tree.proofs.TextOrder.{all_ordered, ordered_rises}
 
 -- ---- the canonical form of an element
+
+-- it is the element with kids in their order
+pub canonical_parts : (p : Plain) (attrs : Pairs) (text : List ℕ) (kids : List Plain) → attrs ≡ (out-Plain p).attrs → text ≡ (out-Plain p).text → kids ≡ in_text_order (map canonical_plain (out-Plain p).kids)
+    → roll-Plain (record { tag = (out-Plain p).tag; attrs = attrs; text = text; kids = kids }) ≡ canonical_plain p
+canonical_parts p attrs text kids same_attrs same_text ordered =
+    (λ i. roll-Plain (record { tag = (out-Plain p).tag; attrs = same_attrs i; text = same_text i; kids = ordered i })) ∙ sym (fold_out-Plain Plain canonical_step p)
 
 -- its kids
 pub kids_of_canonical : (p : Plain) → (out-Plain (canonical_plain p)).kids ≡ in_text_order (map canonical_plain (out-Plain p).kids)

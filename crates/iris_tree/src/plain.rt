@@ -1,7 +1,7 @@
 //! Plain elements.
 ghost use Rattle.std.specs.Prelude.{◌≡◌, IfOk};
 ghost use Rattle.iris_tree.specs.NamesId.{names_id};
-ghost use Rattle.iris_tree.specs.PlainOrder.{IsTextOrder, in_text_order, canonical_plain};
+ghost use Rattle.iris_tree.specs.PlainOrder.{IsTextOrder, IsCanonicalPlain, in_text_order, canonical_plain};
 
 use crate::attrs::Attrs;
 use crate::written::Written;
@@ -34,7 +34,8 @@ impl Plain {
     /// The element in canonical form, by the same allocator: at every depth siblings stand in the order
     /// of the bytes of their JSON texts.
     pub fn canonical(&self) -> Mem<Plain>
-        ensures { IfOk result (λ canonical. canonical ≡ canonical_plain self.now) }
+        ensures is { IfOk result (λ canonical. canonical ≡ canonical_plain self.now) }
+        ensures canonical { IfOk result IsCanonicalPlain }
     {
         let mut kids = Vec::with_capacity(self.kids.allocator(), self.kids.len())?;
         for kid in self.kids.as_slice() {
