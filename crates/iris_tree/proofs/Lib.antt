@@ -1,3 +1,7 @@
+pub mod Changed
+pub mod NoIds
+pub mod Canonical
+pub mod TextOrder
 pub mod Rising
 pub mod AttrPlaces
 pub mod Counted

@@ -4,7 +4,11 @@ pub mod Document
 pub mod Items
 pub mod LocalPut
 pub mod LocalText
+pub mod NamesId
+pub mod NamesKind
 pub mod NodeCode
+pub mod PlainCounts
+pub mod PlainOrder
 pub mod Siblings
 pub mod TextLen
 pub mod Universe

@@ -81,7 +81,7 @@ impl Local {
 }
 
 impl Change {
-    #[tactic(auto, unfolding(crate::specs::LocalText::value_tokens))]
+    #[tactic(auto, using(crate::proofs::Counted::counted_push), unfolding(crate::specs::LocalText::value_tokens))]
     fn count(&self, counter: &mut Counter)
         ensures { counter.new ≡ counted counter.old (value_tokens (change_data self.now)) }
     {
@@ -95,6 +95,10 @@ impl Change {
             Change::Drop { name } => {
                 counter.string("drop");
                 counter.string(name.as_str());
+            }
+            Change::Put { plain } => {
+                counter.string("put");
+                plain.count(counter);
             }
         }
         counter.end_array();

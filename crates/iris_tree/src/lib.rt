@@ -7,12 +7,15 @@ mod count;
 mod counter;
 mod item;
 mod json_text;
+mod kinds;
 mod local;
 mod plain;
+mod plain_counts;
 #[cfg(test)]
 mod tests;
 mod tree;
 mod write;
+mod written;
 
 pub use attrs::Attrs;
 pub use change::{Change, ChangeError};

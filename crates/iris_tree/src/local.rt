@@ -1,5 +1,6 @@
 //! What a node holds itself.
 ghost use Rattle.std.specs.Prelude.{◌≡◌, [], IfOk};
+ghost use Rattle.iris_tree.specs.NamesId.{local_names_id};
 
 use crate::attrs::Attrs;
 use crate::plain::Plain;
@@ -25,6 +26,21 @@ impl Local {
             attrs: Attrs::new(alloc),
             plain: Sequence::new(alloc),
         }
+    }
+
+    /// Whether the node, or one of its plain elements at any depth, has an attribute named `id`.
+    pub fn names_id(&self) -> bool
+        ensures { result ≡ local_names_id self.now }
+    {
+        if self.attrs.get("id").is_some() {
+            return true;
+        }
+        for element in self.plain.as_slice() {
+            if element.names_id() {
+                return true;
+            }
+        }
+        false
     }
 
     /// A copy, by the same allocator.

@@ -1,7 +1,7 @@
 //! Each public call once, with its answer.
 
 use crate::attrs::Attrs;
-use crate::change::Change;
+use crate::change::{Change, ChangeError};
 use crate::count::changes_len;
 use crate::item::{Element, Item};
 use crate::json_text::JsonText;
@@ -148,6 +148,31 @@ fn changes(rt: HostRuntime) -> Result<(), Fail> {
     let text = "{\"attrs\":{\"free\":\"no\\n\"},\"plain\":[]}";
     assert_eq!(rt; str::from_utf8(&local.text()?)?, text);
     assert_eq!(rt; local.text_len(), text.len() as u64);
+    Ok(())
+}
+
+#[test]
+fn puts_an_element_in_the_place_of_two(rt: HostRuntime) -> Result<(), Fail> {
+    let alloc = rt.alloc();
+    let mut local = Local::new(alloc);
+    local.plain.push(note(alloc)?)?;
+    local.plain.push(note(alloc)?)?;
+    let put = Change::Put {
+        plain: note(alloc)?,
+    };
+    let changed = local.change(&[put])?;
+    assert_eq!(rt; (changed.plain_count(), changed.plain_depth()), (1, 1));
+    Ok(())
+}
+
+#[test]
+fn refuses_an_id_inside_an_element(rt: HostRuntime) -> Result<(), Fail> {
+    let mut plain = note(rt.alloc())?;
+    plain
+        .attrs
+        .insert(Tag::new("id")?, Text::new(rt.alloc(), "x")?)?;
+    let changed = Local::new(rt.alloc()).change(&[Change::Put { plain }]);
+    assert!(rt; matches!(changed, Err(ChangeError::BadChange { at: 0 })));
     Ok(())
 }
 

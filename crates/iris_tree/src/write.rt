@@ -103,6 +103,10 @@ impl Change {
                 out.string("drop")?;
                 out.string(name.as_str())?;
             }
+            Change::Put { plain } => {
+                out.string("put")?;
+                plain.write(out)?;
+            }
         }
         out.end_array()?;
         Ok(())
@@ -121,7 +125,8 @@ fn write_changes(changes: &[Change], out: &mut JsonText) -> Mem<()>
 }
 
 /// The JSON text of changes, without spaces: an array that has `["attr",name,value]` for an attribute
-/// that gets a value and `["drop",name]` for one that is taken away, in the order of the changes.
+/// that gets a value, `["drop",name]` for one that is taken away, and `["put",element]` for a plain
+/// element that is put, in the order of the changes.
 #[tactic(auto, using(crate::proofs::ValueTokens::printed))]
 pub fn changes_text(alloc: Global, changes: &[Change]) -> Mem<Vec<u8>>
     ensures { IfOk result (λ text. text.items ≡ changes_text changes.now) }
