@@ -1,10 +1,23 @@
-pub mod GivesQuery
-pub mod IsQueryWord
+mod Again
+mod Anchors
+mod Deeper
+mod Digits
+mod Endings
+mod Exact
+mod High
+mod Judging
+mod Laws
+mod Leads
+mod Numbers
+mod Pads
 pub mod PlaceOrder
-pub mod ReadsAll
-pub mod ReadsMain
-pub mod ReadsOnce
-pub mod ReadsPredicate
+mod Runs
 pub mod SelectedPlaces
+mod Stacks
+mod Tallies
 pub mod ThinQuery
+mod Traces
 pub mod Walk
+mod Words
+mod Writing
+mod Written
