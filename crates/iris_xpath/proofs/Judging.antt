@@ -26,7 +26,7 @@ use Rattle.iris_xpath.specs.Reading.{IsFree, Reached, Traced}
 use Rattle.iris_xpath.specs.Machine.{Turned, IsBytewise}
 use Rattle.iris_xpath.specs.Refused.{Judged, Refused, IsAt, what_in, what_there, last_byte}
 use Rattle.iris_xpath.specs.Outside.{what_at, last_of}
-use Rattle.iris_xpath.specs.declared.what.Last.{Last}
+use Rattle.iris_xpath.specs.declared.outside.Last.{Last}
 use Rattle.iris_xpath.specs.declared.error.OutsidePart.{OutsidePart}
 use Rattle.iris_xpath.specs.declared.error.QueryError.{QueryError}
 use Rattle.iris_xpath.specs.declared.error.QueryError.TheVariants as errors

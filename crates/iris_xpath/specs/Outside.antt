@@ -15,10 +15,10 @@ use Rattle.iris_xpath.specs.declared.state.Spot.TheVariants as spots
 use Rattle.iris_xpath.specs.declared.state.Link.TheVariants as links
 use Rattle.iris_xpath.specs.declared.state.State.{State}
 use Rattle.iris_xpath.specs.declared.state.State.TheVariants as states
-use Rattle.iris_xpath.specs.declared.what.Ending.{Ending}
-use Rattle.iris_xpath.specs.declared.what.Ending.TheVariants as endings
-use Rattle.iris_xpath.specs.declared.what.Last.{Last}
-use Rattle.iris_xpath.specs.declared.what.Last.TheVariants as lasts
+use Rattle.iris_xpath.specs.declared.outside.Ending.{Ending}
+use Rattle.iris_xpath.specs.declared.outside.Ending.TheVariants as endings
+use Rattle.iris_xpath.specs.declared.outside.Last.{Last}
+use Rattle.iris_xpath.specs.declared.outside.Last.TheVariants as lasts
 use Rattle.iris_xpath.specs.Bytes.{is_digit, is_word_byte}
 use Rattle.iris_xpath.specs.Trees.{is_none}
 

@@ -1,5 +1,5 @@
 use Rattle.iris_xpath.proofs.Endings.{whole_end, whole_more, whole_not}
-use Rattle.iris_xpath.proofs.what.is_whole_word.Goals as goal
+use Rattle.iris_xpath.proofs.outside.is_whole_word.Goals as goal
 
 pub returns-in-empty : goal.returns-in-empty
 returns-in-empty c = whole_end c.args.word.now c.args.rest.now c.as_bytes.result.now c.in-Some.after.now c.as_bytes.ensures.value c.in-Some.ensures.cases.0 c.in-Some.ensures.cases.1 c.in-empty.len_below
