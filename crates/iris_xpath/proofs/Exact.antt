@@ -5,12 +5,15 @@ use Rattle.iris_xpath.specs.Syntax.{Syntax}
 use Rattle.iris_xpath.specs.declared.error.QueryError.{QueryError}
 use Rattle.iris_xpath.specs.declared.error.QueryError.TheVariants as errors
 use Rattle.iris_xpath.specs.declared.error.QueryLimit.{QueryLimit}
-use Rattle.iris_xpath.specs.Grammar.{Main, Spells}
+use Rattle.iris_xpath.specs.Grammar.{Main}
+use Rattle.iris_xpath.specs.Spells.{Spells, Reads}
 use Rattle.iris_xpath.specs.Tally.{limit_of}
 use Rattle.iris_xpath.specs.Parens.{parens_of}
 use Rattle.iris_xpath.specs.Refused.{Refused}
 use Rattle.iris_xpath.specs.Told.{Found, Passes, Gives}
+use Rattle.iris_xpath.specs.Trees.{named}
 use Rattle.iris_xpath.proofs.Runs.{Knows}
+use Rattle.iris_xpath.proofs.Words.{knows}
 use Rattle.iris_xpath.proofs.Judging.{judged_refuses, one_query, same_parens}
 
 passes_none : (n : List ℕ → NameTest) → Knows n → (text : List ℕ) (q : Syntax) (m : Main) (w : QueryLimit) → Spells n text q m → limit_of q (parens_of m) ≡ None → Passes n text w → ⊥
@@ -31,3 +34,6 @@ over_gives n k text steps parens w r l q f = passes_none n k text q f.1.0 w f.1.
 
 pub same_gives : (n : List ℕ → NameTest) → Knows n → (text : List ℕ) (steps : Syntax) (parens : ℕ) → (m : Main) × Spells n text steps m × (parens ≡ parens_of m) → (q : Syntax) → Found n text q → steps ≡ q
 same_gives n k text steps parens r q f = one_query n k text steps q (r.0, r.1) (f.1.0, f.1.1)
+
+pub reads_once : (kinds : List (List ℕ)) (text : List ℕ) (p q : Syntax) → Reads (named kinds) text p → Reads (named kinds) text q → p ≡ q
+reads_once kinds text p q r s = one_query (named kinds) (knows kinds) text p q r s

@@ -10,7 +10,8 @@ use Rattle.iris_xpath.specs.declared.state.State.{State}
 use Rattle.iris_xpath.specs.declared.state.State.TheVariants as states
 use Rattle.iris_xpath.specs.Bytes.{is_quote}
 use Rattle.iris_xpath.specs.Machine.{Configuration, at, inside, next, accept, run, start}
-use Rattle.iris_xpath.specs.Grammar.{none, more, slash, slashes, sep_blank, dot, dots, dots_blank, equal, not_equal, less, less_or_equal, greater, greater_or_equal, cmp_blank, literal, number, negative, const_blank, word, star, predicate, tested_blank, attribute, attr_blank, Main, Spells, Reads, IsPrefix}
+use Rattle.iris_xpath.specs.Grammar.{none, more, slash, slashes, sep_blank, dot, dots, dots_blank, equal, not_equal, less, less_or_equal, greater, greater_or_equal, cmp_blank, literal, number, negative, const_blank, word, star, predicate, tested_blank, attribute, attr_blank, Main}
+use Rattle.iris_xpath.specs.Spells.{Spells, Reads, IsPrefix}
 use Rattle.iris_xpath.proofs.Written.{Written, w_start, w_main_sep, w_tested, w_unit, w_dots, w_part_sep, w_at, w_attr, w_const, w_literal, w_minus, w_bang, w_right, w_group, w_link, shape, Good}
 use Rattle.std.proofs.Common.{take, drop, take_all, take-append-drop, length-append, get_or, ◌<◌, ◌≤◌, ◌+◌, ◌-◌, suc}
 use Rattle.std.proofs.lemmas.Bool.{cases_lt}

@@ -14,7 +14,8 @@ use Rattle.iris_xpath.specs.declared.state.Link.{Link}
 use Rattle.iris_xpath.specs.declared.state.Link.TheVariants as links
 use Rattle.iris_xpath.specs.declared.state.State.TheVariants as states
 use Rattle.iris_xpath.specs.Machine.{Configuration, at, next, accept, run, start}
-use Rattle.iris_xpath.specs.Grammar.{Row, none, more, Sep, slash, slashes, sep_blank, dot, dots, dots_blank, equal, not_equal, less, less_or_equal, greater, greater_or_equal, cmp_blank, literal, number, negative, const_blank, Tested, word, star, predicate, tested_blank, Fore, attribute, attr_blank, Main, step, sep_text, tested_text, main_text, sep_tree, tested_tree, main_tree, GoodSep, GoodTested, GoodMain, Reads, IsPrefix}
+use Rattle.iris_xpath.specs.Grammar.{Row, none, more, Sep, slash, slashes, sep_blank, dot, dots, dots_blank, equal, not_equal, less, less_or_equal, greater, greater_or_equal, cmp_blank, literal, number, negative, const_blank, Tested, word, star, predicate, tested_blank, Fore, attribute, attr_blank, Main, step, sep_text, tested_text, main_text}
+use Rattle.iris_xpath.specs.Spells.{sep_tree, tested_tree, main_tree, GoodSep, GoodTested, GoodMain, Reads, IsPrefix}
 use Rattle.iris_xpath.proofs.Written.{Opening, bracket, paren, not_paren, Before, before, Stand, in_main, in_path, Hand, left, right, Written, w_start, w_main_sep, w_tested, w_unit, w_dots, w_part_sep, w_at, w_attr, w_const, w_literal, w_minus, w_bang, w_right, w_group, w_link, hand, stand, frames_opening, frames_before, frames_stand, frames_hand, shape, written, Good}
 use Rattle.iris_xpath.proofs.Leads.{Leads, leads, Tells}
 

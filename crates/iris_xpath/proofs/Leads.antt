@@ -19,7 +19,8 @@ use Rattle.iris_xpath.specs.declared.state.State.TheVariants as states
 use Rattle.iris_xpath.specs.Bytes.{is_letter, is_digit, is_word_byte, is_blank, is_quote}
 use Rattle.iris_xpath.specs.Trees.{is_name, is_none, is_not, joined_and, joined_or, add_and, add_or}
 use Rattle.iris_xpath.specs.Machine.{Configuration, at, below, begin_step, begin_dots, begin_part, after_separator, begin_operand, begin_unit, unit, begin_right, close, end_unit, end_alone, end_operand, after_operand, link_if, after_path, after_dots, not_if, open_not, follow_step, after_step, in_literal, next}
-use Rattle.iris_xpath.specs.Grammar.{Row, none, more, Sep, slash, slashes, sep_blank, Dots, dot, dots, dots_blank, Cmp, equal, not_equal, less, less_or_equal, greater, greater_or_equal, cmp_blank, Const, literal, number, negative, const_blank, Tested, word, star, predicate, tested_blank, Piece, tested, dotted, Fore, no_fore, fore, Attr, attribute, attr_blank, path, attr, Arg, road, const, group, not_group, group_blank, Term, alone, compared, grouped, Ands, one, both, Ors, one_and, either, Main, lead, step, row, sep_text, dots_text, cmp_text, const_text, tested_text, piece_text, fore_text, attr_text, arg_text, term_text, ors_text, main_text, sep_tree, dots_tree, const_tree, fore_sep, tested_tree, piece_tree, fore_tree, attr_tree, arg_tree, term_tree, ands_list, ors_list, ors_tree, main_tree, starts_tested, starts_path, starts_at, starts_arg, starts_term, starts_ands, ends_tested, ends_piece, ends_attr, ends_arg, ends_term, ends_ands, ends_ors, GoodSep, IsNot, GoodTested, GoodPiece, GoodFore, GoodArg, GoodTerm, GoodAnds, GoodOrs, GoodMain}
+use Rattle.iris_xpath.specs.Grammar.{Row, none, more, Sep, slash, slashes, sep_blank, Dots, dot, dots, dots_blank, Cmp, equal, not_equal, less, less_or_equal, greater, greater_or_equal, cmp_blank, Const, literal, number, negative, const_blank, Tested, word, star, predicate, tested_blank, Piece, tested, dotted, Fore, no_fore, fore, Attr, attribute, attr_blank, path, attr, Arg, road, const, group, not_group, group_blank, Term, alone, compared, grouped, Ands, one, both, Ors, one_and, either, Main, lead, step, row, sep_text, dots_text, cmp_text, const_text, tested_text, piece_text, fore_text, attr_text, arg_text, term_text, ors_text, main_text}
+use Rattle.iris_xpath.specs.Spells.{sep_tree, dots_tree, const_tree, fore_sep, tested_tree, piece_tree, fore_tree, attr_tree, arg_tree, term_tree, ands_list, ors_list, ors_tree, main_tree, starts_tested, starts_path, starts_at, starts_arg, starts_term, starts_ands, ends_tested, ends_piece, ends_attr, ends_arg, ends_term, ends_ands, ends_ors, GoodSep, IsNot, GoodTested, GoodPiece, GoodFore, GoodArg, GoodTerm, GoodAnds, GoodOrs, GoodMain}
 use Rattle.iris_xpath.proofs.Written.{OrFore, no_or, after_or, AndFore, no_and, after_and, Opening, bracket, paren, not_paren, Before, before, Stand, in_main, in_path, Hand, left, right, Written, w_start, w_main_sep, w_tested, w_unit, w_dots, w_part_sep, w_at, w_attr, w_const, w_literal, w_minus, w_bang, w_right, w_group, w_link, or_list, and_list, level, hand, stand, stand_sep, frames_opening, frames_before, frames_stand, frames_hand, shape, or_text, and_text, opening_text, before_text, stand_text, hand_text, link_text, written, tight_or, tight, Room, HandRoom, GoodOr, GoodAnd, GoodOpening, GoodBefore, GoodStand, GoodHand, StandRoom, Good}
 
 -- ---- tests of bytes

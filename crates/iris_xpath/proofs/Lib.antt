@@ -1,5 +1,6 @@
 mod Again
 mod Anchors
+mod Begins
 mod Deeper
 mod Digits
 mod Endings
@@ -18,6 +19,7 @@ mod Tallies
 pub mod ThinQuery
 mod Traces
 pub mod Walk
+mod Wholes
 mod Words
 mod Writing
 mod Written

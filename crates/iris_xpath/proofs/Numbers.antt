@@ -9,7 +9,8 @@ use Rattle.iris_xpath.specs.declared.expression.Operand.TheVariants as operands
 use Rattle.iris_xpath.specs.declared.expression.Expression.{Expression}
 use Rattle.iris_xpath.specs.Bytes.{is_digit, is_quote}
 use Rattle.iris_xpath.specs.Trees.{number_of, signed, digit_of, value_of, value_after}
-use Rattle.iris_xpath.specs.Grammar.{Row, none, more, row, Const, literal, number, negative, const_blank, const_text, const_tree, Each, HasNo, GoodConst}
+use Rattle.iris_xpath.specs.Grammar.{Row, none, more, row, Const, literal, number, negative, const_blank, const_text}
+use Rattle.iris_xpath.specs.Spells.{const_tree, Each, HasNo, GoodConst}
 use Rattle.iris_xpath.specs.Printed.{operand_text, predicates_text}
 use Rattle.iris_xpath.proofs.Digits.{value_end, small_more}
 use Rattle.iris_xpath.proofs.Leads.{on_test, is_byte}

@@ -6,7 +6,8 @@ use Rattle.iris_xpath.specs.declared.expression.Operand.{Operand}
 use Rattle.iris_xpath.specs.declared.expression.Path.{Path}
 use Rattle.iris_xpath.specs.declared.expression.Expression.{Expression}
 use Rattle.iris_xpath.specs.Trees.{compare_of, exists_of, add_and, add_or, joined_and}
-use Rattle.iris_xpath.specs.Grammar.{tested_blank, Piece, tested, dotted, dots_blank, attr_blank, Road, path, attr, Arg, road, const, const_blank, group_blank, Term, alone, compared, grouped, Ands, one, both, Ors, one_and, either, Row, fore_text, road_text, arg_text, term_text, ands_text, ors_text, tested_text, dots_text, road_tree, arg_tree, term_tree, cmp_tree, ands_list, ands_tree, ors_list, GoodRoad, GoodArg, GoodTerm, GoodAnds, GoodOrs, Apart, Fore, no_fore, fore, starts_piece, starts_path, starts_road, starts_term, starts_ands, ends_road, ends_arg, ends_term, ends_ands, ends_ors}
+use Rattle.iris_xpath.specs.Grammar.{tested_blank, Piece, tested, dotted, dots_blank, attr_blank, Road, path, attr, Arg, road, const, const_blank, group_blank, Term, alone, compared, grouped, Ands, one, both, Ors, one_and, either, Row, fore_text, road_text, arg_text, term_text, ands_text, ors_text, tested_text, dots_text, Fore, no_fore, fore}
+use Rattle.iris_xpath.specs.Spells.{road_tree, arg_tree, term_tree, cmp_tree, ands_list, ands_tree, ors_list, GoodRoad, GoodArg, GoodTerm, GoodAnds, GoodOrs, Apart, starts_piece, starts_path, starts_road, starts_term, starts_ands, ends_road, ends_arg, ends_term, ends_ands, ends_ors}
 use Rattle.iris_xpath.specs.Parens.{deep_road, deep_arg, deep_term, deep_ands, deep_ors}
 
 abbrev pub pad_piece : Piece → Piece

@@ -21,12 +21,14 @@ use Rattle.iris_xpath.specs.declared.state.State.TheVariants as states
 use Rattle.iris_xpath.specs.Bytes.{is_letter, is_digit, is_word_byte, is_blank}
 use Rattle.iris_xpath.specs.Trees.{step_of, with_predicate, negated_if, joined_and, add_and, add_or}
 use Rattle.iris_xpath.specs.Machine.{Configuration, at, no_units, close, end_unit, end_operand, next, start}
-use Rattle.iris_xpath.specs.Grammar.{Row, none, more, Sep, slash, slashes, sep_blank, Dots, dot, dots, dots_blank, Cmp, equal, not_equal, less, less_or_equal, greater, greater_or_equal, cmp_blank, Const, literal, number, negative, const_blank, Tested, word, star, predicate, tested_blank, Piece, tested, dotted, Fore, no_fore, fore, Attr, attribute, attr_blank, Road, path, attr, Arg, road, const, Group, group, not_group, group_blank, Term, alone, compared, grouped, Ands, one, both, Ors, one_and, either, Main, lead, step, row, sep_text, dots_text, cmp_text, const_text, tested_text, piece_text, fore_text, attr_text, road_text, arg_text, group_text, term_text, ands_text, ors_text, main_text, sep_tree, dots_tree, cmp_tree, const_tree, fore_sep, tested_tree, fore_tree, attr_tree, road_tree, arg_tree, group_tree, term_tree, ands_list, ors_list, ors_tree, main_tree, starts_tested, starts_piece, starts_path, starts_at, starts_attr, starts_road, starts_const, starts_arg, starts_group, starts_term, starts_ands, ends_tested, ends_road, ends_arg, ends_term, ends_ands, ends_ors, Apart, Each, HasNo, GoodSep, GoodDots, GoodCmp, GoodConst, GoodTested, GoodPiece, GoodFore, GoodAttr, GoodRoad, GoodArg, GoodGroup, GoodTerm, GoodAnds, GoodOrs, GoodMain, Spells}
+use Rattle.iris_xpath.specs.Grammar.{Row, none, more, Sep, slash, slashes, sep_blank, Dots, dot, dots, dots_blank, Cmp, equal, not_equal, less, less_or_equal, greater, greater_or_equal, cmp_blank, Const, literal, number, negative, const_blank, Tested, word, star, predicate, tested_blank, Piece, tested, dotted, Fore, no_fore, fore, Attr, attribute, attr_blank, Road, path, attr, Arg, road, const, Group, group, not_group, group_blank, Term, alone, compared, grouped, Ands, one, both, Ors, one_and, either, Main, lead, step, row, sep_text, dots_text, cmp_text, const_text, tested_text, piece_text, fore_text, attr_text, road_text, arg_text, group_text, term_text, ands_text, ors_text, main_text}
+use Rattle.iris_xpath.specs.Spells.{sep_tree, dots_tree, cmp_tree, const_tree, fore_sep, tested_tree, fore_tree, attr_tree, road_tree, arg_tree, group_tree, term_tree, ands_list, ors_list, ors_tree, main_tree, starts_tested, starts_piece, starts_path, starts_at, starts_attr, starts_road, starts_const, starts_arg, starts_group, starts_term, starts_ands, ends_tested, ends_road, ends_arg, ends_term, ends_ands, ends_ors, Apart, Each, HasNo, GoodSep, GoodDots, GoodCmp, GoodConst, GoodTested, GoodPiece, GoodFore, GoodAttr, GoodRoad, GoodArg, GoodGroup, GoodTerm, GoodAnds, GoodOrs, GoodMain, Spells}
 use Rattle.iris_xpath.proofs.Written.{look_sep, look_attr, look_const, look_literal, look_right}
 use Rattle.std.proofs.Common.{suc, max, ◌≤◌}
 use Rattle.iris_xpath.specs.Parens.{deep_tested, deep_piece, deep_fore, deep_attr, deep_road, deep_arg, deep_group, deep_term, deep_ands, deep_ors, deep_main, parens_of, parens_in, parens_at, trace}
 use Rattle.iris_xpath.proofs.Leads.{and_false}
-use Rattle.iris_xpath.proofs.Runs.{letter_is, digit_is, blank_is, BeginsStep, BeginsPart, BeginsArg, BeginsTerm, unit_begins, and_begins, or_begins, side_of, cmp_begins, sep_begins, main_begins, sep_blank_next, Ender, Final, seen, seen_next, seen_blank, seen_dots, seen_piece, piece_slash, piece_ends, dots_blank_next, literal_ends, const_blank_next, const_ends, attr_blank_next, attr_ends, cmp_blank_next, left_side, ands_last, ands_front, ands_step, ors_end, ors_front, ors_step, ors_whole, final_93, final_41, final_97, final_111, Knows, not_tree, any_step, main_state, main_slash}
+use Rattle.iris_xpath.proofs.Runs.{Ender, Final, seen, seen_next, seen_blank, seen_dots, seen_piece, piece_slash, piece_ends, dots_blank_next, literal_ends, const_blank_next, const_ends, attr_blank_next, attr_ends, cmp_blank_next, left_side, ands_last, ands_front, ands_step, ors_end, ors_front, ors_step, ors_whole, final_93, final_41, final_97, final_111, Knows, not_tree, any_step, main_state, main_slash}
+use Rattle.iris_xpath.proofs.Begins.{letter_is, digit_is, blank_is, BeginsStep, BeginsPart, BeginsArg, BeginsTerm, unit_begins, and_begins, or_begins, side_of, cmp_begins, sep_begins, main_begins, sep_blank_next}
 
 abbrev on : (List ℕ → NameTest) → ℕ → List ℕ → Option Configuration → Option (Configuration × ℕ)
 on n d u r = option_and_then (λ t. trace n t (max d (parens_at t)) u) r

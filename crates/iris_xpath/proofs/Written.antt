@@ -19,7 +19,8 @@ use Rattle.iris_xpath.specs.declared.state.State.{State}
 use Rattle.iris_xpath.specs.declared.state.State.TheVariants as states
 use Rattle.iris_xpath.specs.Bytes.{is_blank, is_quote}
 use Rattle.iris_xpath.specs.Machine.{Configuration, at, inside, sign_of, right_of}
-use Rattle.iris_xpath.specs.Grammar.{Row, none, more, Sep, slash, slashes, sep_blank, Dots, dot, dots, dots_blank, Cmp, equal, not_equal, less, less_or_equal, greater, greater_or_equal, cmp_blank, Const, literal, number, negative, const_blank, Tested, word, star, predicate, tested_blank, Piece, tested, dotted, Fore, fore, Attr, attribute, attr_blank, Arg, Group, Term, Ands, Ors, Main, row, sep_text, dots_text, cmp_text, const_text, tested_text, fore_text, attr_text, arg_text, group_text, term_text, ands_text, ors_text, main_text, sep_tree, dots_tree, cmp_tree, const_tree, fore_sep, tested_tree, fore_tree, attr_tree, arg_tree, group_tree, term_tree, ands_list, ors_list, main_tree, starts_path, starts_at, starts_attr, starts_const, starts_arg, starts_group, starts_term, starts_ands, ends_term, ends_ands, ends_ors, is_empty, Each, HasNo, GoodSep, GoodDots, GoodCmp, GoodConst, IsNot, GoodTested, GoodFore, GoodAttr, GoodArg, GoodGroup, GoodTerm, GoodAnds, GoodOrs, GoodMain}
+use Rattle.iris_xpath.specs.Grammar.{Row, none, more, Sep, slash, slashes, sep_blank, Dots, dot, dots, dots_blank, Cmp, equal, not_equal, less, less_or_equal, greater, greater_or_equal, cmp_blank, Const, literal, number, negative, const_blank, Tested, word, star, predicate, tested_blank, Piece, tested, dotted, Fore, fore, Attr, attribute, attr_blank, Arg, Group, Term, Ands, Ors, Main, row, sep_text, dots_text, cmp_text, const_text, tested_text, fore_text, attr_text, arg_text, group_text, term_text, ands_text, ors_text, main_text}
+use Rattle.iris_xpath.specs.Spells.{sep_tree, dots_tree, cmp_tree, const_tree, fore_sep, tested_tree, fore_tree, attr_tree, arg_tree, group_tree, term_tree, ands_list, ors_list, main_tree, starts_path, starts_at, starts_attr, starts_const, starts_arg, starts_group, starts_term, starts_ands, ends_term, ends_ands, ends_ors, is_empty, Each, HasNo, GoodSep, GoodDots, GoodCmp, GoodConst, IsNot, GoodTested, GoodFore, GoodAttr, GoodArg, GoodGroup, GoodTerm, GoodAnds, GoodOrs, GoodMain}
 
 -- ---- what is open
 

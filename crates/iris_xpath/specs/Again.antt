@@ -3,7 +3,7 @@ use Rattle.std.specs.Prelude.{ℕ, List, ◌≤◌, length}
 use Rattle.iris_xpath.specs.declared.expression.NameTest.{NameTest}
 use Rattle.iris_xpath.specs.Syntax.{Syntax}
 use Rattle.iris_xpath.specs.Trees.{named}
-use Rattle.iris_xpath.specs.Grammar.{Reads}
+use Rattle.iris_xpath.specs.Spells.{Reads}
 use Rattle.iris_xpath.specs.Printed.{printed}
 use Rattle.iris_xpath.specs.Told.{Found}
 use Rattle.iris_base.specs.declared.limits.TheConstants.{MAX_QUERY_BYTES}

@@ -13,6 +13,7 @@ pub mod Places
 pub mod Printed
 pub mod Reading
 pub mod Refused
+pub mod Spells
 pub mod Syntax
 pub mod Tally
 pub mod Thin

@@ -5,7 +5,7 @@ use Rattle.iris_xpath.specs.Syntax.{Syntax}
 use Rattle.iris_xpath.specs.declared.error.QueryError.{QueryError}
 use Rattle.iris_xpath.specs.declared.error.QueryError.TheVariants as errors
 use Rattle.iris_xpath.specs.declared.error.OutsidePart.{OutsidePart}
-use Rattle.iris_xpath.specs.Grammar.{Reads, IsPrefix}
+use Rattle.iris_xpath.specs.Spells.{Reads, IsPrefix}
 use Rattle.iris_xpath.specs.Machine.{Configuration, at, inside, run, start}
 use Rattle.iris_xpath.specs.Outside.{what_at, last_of}
 

@@ -6,7 +6,8 @@ use Rattle.iris_xpath.specs.declared.error.QueryError.{QueryError}
 use Rattle.iris_xpath.specs.declared.error.QueryError.TheVariants as errors
 use Rattle.iris_xpath.specs.declared.error.QueryLimit.{QueryLimit}
 use Rattle.iris_xpath.specs.declared.error.QueryLimit.TheVariants as which
-use Rattle.iris_xpath.specs.Grammar.{Main, Spells}
+use Rattle.iris_xpath.specs.Grammar.{Main}
+use Rattle.iris_xpath.specs.Spells.{Spells}
 use Rattle.iris_xpath.specs.Parens.{parens_of}
 use Rattle.iris_xpath.specs.Tally.{limit_of}
 use Rattle.iris_xpath.specs.Refused.{Refused}

@@ -1,17 +1,17 @@
 //! Reads a query from its text.
-ghost use Rattle.std.specs.Prelude.{◌≡◌, ◌≢◌, ℕ, ◌≤◌, ◌<◌, ◌-◌, max, length, take, List, true, [], ◌∷◌, ◌++◌, IfOk, IfErr, IfSome, IfNone, OnSome, MatchOption, Some, None, option_map};
+ghost use Rattle.std.specs.Prelude.{◌≡◌, ◌≢◌, ℕ, ◌≤◌, ◌<◌, ◌-◌, max, length, take, List, true, [], ◌∷◌, ◌++◌, IfOk, IfErr, MatchOption};
 ghost use Rattle.iris_xpath.specs.Bytes as class;
 ghost use Rattle.iris_xpath.specs.Trees as trees;
 ghost use Rattle.iris_xpath.specs.Machine as machine;
-ghost use Rattle.iris_xpath.specs.Machine.{Turned, IsBytewise, at, run, start};
+ghost use Rattle.iris_xpath.specs.Machine.{IsBytewise, at};
 ghost use Rattle.iris_xpath.specs.declared.state.State.{State};
 ghost use Rattle.iris_xpath.specs.declared.state.Frame.{Frame};
 ghost use Rattle.iris_xpath.specs.declared.expression.Operand.{Operand};
 ghost use Rattle.iris_xpath.specs.Reading.{Goes, IsFree, Reached, Traced};
-ghost use Rattle.iris_xpath.specs.Refused.{Refused, Judged, IsAt, last_byte};
-ghost use Rattle.iris_xpath.specs.Grammar.{Main, Spells};
+ghost use Rattle.iris_xpath.specs.Refused.{Refused, IsAt, last_byte};
+ghost use Rattle.iris_xpath.specs.Grammar.{Main};
+ghost use Rattle.iris_xpath.specs.Spells.{Spells, Reads};
 ghost use Rattle.iris_xpath.specs.Parens.{parens_of, parens_in};
-ghost use Rattle.iris_xpath.specs.Tally as tally;
 ghost use Rattle.iris_xpath.specs.Outside as outside;
 ghost use Rattle.iris_xpath.specs.Told.{Found, Told, Gives};
 ghost use Rattle.iris_xpath.specs.Syntax.{Syntax};
@@ -23,52 +23,36 @@ use crate::query::Query;
 use crate::stack::Stack;
 use crate::state::{Side, Spot, State};
 use crate::steps::{step_of, test_of};
-use crate::tally::{depth_of, excess};
+use crate::tally::limit_passed;
 use crate::turn::turn;
-use iris_tree::{Kind, MAX_NESTING, MAX_PARENTHESES, MAX_QUERY_BYTES, Mem, Sequence, Text};
+use iris_tree::{Kind, MAX_QUERY_BYTES, Mem, Sequence, Text};
 use std::alloc::Global;
 
-/// Reads a query.
+/// Reads a query, in abbreviated syntax (XPath 1.0, 2.5). A word of a step is a kind where it is one of
+/// the `kinds`, and else a tag.
 ///
 /// Of a text that is none, `Syntax` and `Outside` tell the least offset such that so many bytes begin a
-/// query and one more do not. Of one that passes a limit, `TooLarge` tells the first.
+/// query and one more do not. Of one that passes a limit, `TooLarge` tells the first, in the order of
+/// `QueryLimit`.
 pub fn parse(alloc: Global, text: &str, kinds: &[Kind]) -> Result<Query, QueryError>
     ensures found { IfOk result (λ q. Found (trees.named kinds.now) text.now q) }
     ensures told { IfErr result (λ e. Told (trees.named kinds.now) text.now e) }
-    ensures exact { (q : Syntax) → Found (trees.named kinds.now) text.now q → Gives q result }
+    ensures only { (q : Syntax) → Found (trees.named kinds.now) text.now q → Gives q result }
+    ensures once { (p q : Syntax) → Reads (trees.named kinds.now) text.now p → Reads (trees.named kinds.now) text.now q → p ≡ q }
 {
     if text.len() > MAX_QUERY_BYTES {
         return Err(QueryError::TooLarge {
             which: QueryLimit::Bytes,
         });
     }
-    let (steps, parens) = match read(alloc, text, kinds) {
-        Ok(read) => read,
-        Err(error) => return Err(error),
-    };
+    let (steps, parens) = read(alloc, text, kinds)?;
     match limit_passed(steps.as_slice(), parens) {
         Some(which) => Err(QueryError::TooLarge { which }),
         None => Ok(Query::new(steps)),
     }
 }
 
-// The limit that is passed first, of those behind that of the bytes.
-fn limit_passed(steps: &[Step<Expression>], parens: usize) -> Option<QueryLimit>
-    ensures { result ≡ tally.limit_of steps.now parens }
-{
-    if let Some(which) = excess(steps) {
-        return Some(which);
-    }
-    if parens > MAX_PARENTHESES {
-        return Some(QueryLimit::Parens);
-    }
-    if depth_of(steps) > MAX_NESTING {
-        return Some(QueryLimit::Depth);
-    }
-    None
-}
-
-/// The steps that the whole text is, and how deep parentheses are nested inside one predicate.
+// The steps that the whole text is, and how deep parentheses are nested inside one predicate.
 fn read(
     alloc: Global,
     text: &str,
@@ -98,7 +82,7 @@ fn read(
     }
 }
 
-/// The next state, and what follows the bytes that lead there: one byte, or the rest of a literal.
+// The next state, and what follows the bytes that lead there: one byte, or the rest of a literal.
 fn advance<'a>(
     alloc: Global,
     kinds: &[Kind],
@@ -131,7 +115,7 @@ fn advance<'a>(
     }
 }
 
-/// The state after the byte at the front, and what follows it.
+// The state after the byte at the front, and what follows it.
 fn read_byte<'a>(
     alloc: Global,
     kinds: &[Kind],
@@ -154,7 +138,7 @@ fn read_byte<'a>(
     }
 }
 
-/// The byte at the front, where it is ASCII, and what follows it.
+// The byte at the front, where it is ASCII, and what follows it.
 fn split_byte(text: &str) -> Option<(u8, &str)>
     ensures { MatchOption result ((b : ℕ) (z : List ℕ) → b < 128 → text.now ≢ b ∷ z) (λ r. (text.now ≡ r.0 ∷ r.1.now) × (r.0 < 128)) }
 {
@@ -164,7 +148,7 @@ fn split_byte(text: &str) -> Option<(u8, &str)>
     }
 }
 
-/// The state after the rest of a literal, and what follows it.
+// The state after the rest of a literal, and what follows it.
 fn read_literal<'a>(
     alloc: Global,
     quote: u8,
@@ -181,7 +165,7 @@ fn read_literal<'a>(
     Ok(Some((State::AfterOperand { operand, side }, after)))
 }
 
-/// What stands before the first quote of that kind, and what follows it.
+// What stands before the first quote of that kind, and what follows it.
 fn split_quote(text: &str, quote: u8) -> Option<(&str, &str)>
     requires { class.is_quote quote ≡ true }
     ensures { MatchOption result (IsFree quote text.now) (λ r. (text.now ≡ r.0.now ++ quote ∷ r.1.now) × IsFree quote r.0.now) }
@@ -193,7 +177,7 @@ fn split_quote(text: &str, quote: u8) -> Option<(&str, &str)>
     }
 }
 
-/// Why no query goes on where the rest begins.
+// Why no query goes on where the rest begins.
 fn refusal(last: Last, text: &str, rest: &str) -> QueryError
     requires { length rest.now ≤ length text.now }
     ensures { IsAt result (length text.now - length rest.now) (outside.what_at last (last_byte (take (length text.now - length rest.now) text.now)) rest.now) }
@@ -206,7 +190,7 @@ fn refusal(last: Last, text: &str, rest: &str) -> QueryError
     }
 }
 
-/// The steps, where the text may end at the state.
+// The steps, where the text may end at the state.
 fn whole(alloc: Global, kinds: &[Kind], state: State) -> Mem<Option<Sequence<Step<Expression>>>>
     ensures { IfOk result (λ r. (fs : List Frame) → r ≡ machine.accept (trees.named kinds.now) (at state fs)) }
 {
@@ -227,7 +211,7 @@ fn whole(alloc: Global, kinds: &[Kind], state: State) -> Mem<Option<Sequence<Ste
     }
 }
 
-/// The steps of the main path with one more.
+// The steps of the main path with one more.
 fn with_last(spot: Spot, step: Step<Expression>) -> Mem<Option<Sequence<Step<Expression>>>>
     ensures { IfOk result (λ r. r ≡ machine.with_last spot step) }
 {

@@ -1,12 +1,12 @@
 //! What of a query the limits count.
-ghost use Rattle.std.specs.Prelude.{◌≡◌, ◌-◌, ◌^◌, min, Some, None};
+ghost use Rattle.std.specs.Prelude.{◌≡◌, min, Some, None};
 ghost use Rattle.iris_xpath.specs.Tally as tally;
 
 use crate::error::QueryLimit;
 use crate::expression::{Attribute, Expression, NameTest, Operand, Part, Path, Separator, Step};
 use crate::operands::TOO_LONG;
 use crate::query::Query;
-use iris_tree::{MAX_OPERANDS, MAX_PATH_PARTS, MAX_STEPS, Sequence};
+use iris_tree::{MAX_NESTING, MAX_OPERANDS, MAX_PARENTHESES, MAX_PATH_PARTS, MAX_STEPS, Sequence};
 
 /// What is counted of predicates.
 #[derive(Clone, Copy)]
@@ -21,43 +21,34 @@ pub struct Tally {
     pub depth: usize,
 }
 
-/// Which of the tree's limits is passed first, if any.
-pub fn excess(steps: &[Step<Expression>]) -> Option<QueryLimit>
-    ensures { result ≡ tally.excess steps.now }
+/// The first limit that is passed, of those behind that of the bytes, where parentheses are nested so deep.
+pub fn limit_passed(steps: &[Step<Expression>], parens: usize) -> Option<QueryLimit>
+    ensures { result ≡ tally.limit_of steps.now parens }
 {
     let tally = tally_main(steps);
     if tally.is_long {
-        return Some(QueryLimit::Digits);
-    }
-    if steps.len() > MAX_STEPS {
-        return Some(QueryLimit::Steps);
-    }
-    if tally.path > MAX_PATH_PARTS {
-        return Some(QueryLimit::Path);
-    }
-    if tally.operands > MAX_OPERANDS {
-        return Some(QueryLimit::Operands);
-    }
-    None
-}
-
-/// The nesting depth of the query.
-pub fn depth(query: &Query) -> u32
-    ensures { result ≡ min (tally.depth_of query.now) (2 ^ 32 - 1) }
-{
-    let depth = depth_of(query.steps());
-    if depth > u32::MAX as usize {
-        u32::MAX
+        Some(QueryLimit::Digits)
+    } else if steps.len() > MAX_STEPS {
+        Some(QueryLimit::Steps)
+    } else if tally.path > MAX_PATH_PARTS {
+        Some(QueryLimit::Path)
+    } else if tally.operands > MAX_OPERANDS {
+        Some(QueryLimit::Operands)
+    } else if parens > MAX_PARENTHESES {
+        Some(QueryLimit::Parens)
+    } else if tally.depth > MAX_NESTING {
+        Some(QueryLimit::Depth)
     } else {
-        depth as u32
+        None
     }
 }
 
-/// The nesting depth of the steps.
-pub fn depth_of(steps: &[Step<Expression>]) -> usize
-    ensures { result ≡ min (tally.depth_of steps.now) tally.most }
+/// The nesting depth of the query: the greatest number of paths in its predicates, one inside another,
+/// that have a kind, `*`, `..` or `//`.
+pub fn depth(query: &Query) -> u32
+    ensures { result ≡ tally.depth_of query.now }
 {
-    tally_main(steps).depth
+    tally_main(query.steps()).depth as u32
 }
 
 // The tally of the predicates of all steps.
