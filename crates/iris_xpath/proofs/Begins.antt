@@ -22,7 +22,7 @@ use Rattle.iris_xpath.specs.declared.state.State.TheVariants as states
 use Rattle.iris_xpath.specs.Bytes.{is_letter, is_digit, is_word_byte, is_blank, is_quote}
 use Rattle.iris_xpath.specs.Trees.{step_of, joined_and, add_and, add_or}
 use Rattle.iris_xpath.specs.Machine.{Configuration, at, right_of, sign_of, no_units, next, run}
-use Rattle.iris_xpath.specs.Grammar.{Row, none, more, Sep, slash, slashes, sep_blank, Cmp, equal, not_equal, less, less_or_equal, greater, greater_or_equal, cmp_blank, Arg, compared, step, row, sep_text}
+use Rattle.iris_xpath.specs.Grammar.{Row, none, more, Sep, slash, slashes, sep_blank, Cmp, equal, not_equal, less, less_or_equal, greater, greater_or_equal, cmp_blank, Arg, row, sep_text}
 use Rattle.iris_xpath.specs.Spells.{sep_tree, cmp_tree, arg_tree, Each, GoodSep}
 use Rattle.iris_xpath.proofs.Written.{look_sep, look_right}
 use Rattle.std.proofs.Common.{inl, inr, ◌⊎◌}

@@ -27,7 +27,7 @@ use Rattle.iris_xpath.specs.Spells.{sep_tree, dots_tree, cmp_tree, const_tree, f
 use Rattle.iris_xpath.proofs.Written.{look_sep, look_attr, look_const, look_literal, look_right}
 use Rattle.iris_xpath.proofs.Leads.{and_false}
 use Rattle.iris_xpath.proofs.Laws.{run_none}
-use Rattle.iris_xpath.proofs.Begins.{on, goes, letter_is, digit_is, blank_is, row_run, blanks_run, BeginsStep, BeginsPart, BeginsArg, BeginsTerm, unit_begins, no, and_begins, or_begins, side_of, cmp_begins, sep_begins, main_begins, sep_run}
+use Rattle.iris_xpath.proofs.Begins.{on, goes, letter_is, digit_is, blank_is, row_run, blanks_run, BeginsStep, BeginsPart, BeginsArg, BeginsTerm, unit_begins, and_begins, or_begins, side_of, cmp_begins, sep_begins, main_begins, sep_run}
 
 -- ---- what ends an operand, and what ends a unit
 

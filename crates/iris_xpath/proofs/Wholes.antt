@@ -6,7 +6,7 @@ use Rattle.iris_xpath.specs.declared.expression.Expression.{Expression}
 use Rattle.iris_xpath.specs.declared.expression.Expression.TheOpen.{Expression-F}
 use Rattle.iris_xpath.specs.declared.expression.Expression.TheViews.{out-Expression, roll-Expression, out-roll-Expression}
 use Rattle.iris_xpath.specs.declared.expression.Expression.TheFolds.{fold-roll-Expression}
-use Rattle.iris_xpath.specs.Trees.{has, joined_and, joined_or, and_parts, or_parts}
+use Rattle.iris_xpath.specs.Trees.{joined_and, joined_or, and_parts, or_parts}
 use Rattle.iris_xpath.specs.Grammar.{Row, none, more, word, group, not_group, Term, grouped, Ands, one, both, Ors, one_and, either, row, term_text, ands_text, ors_text}
 use Rattle.iris_xpath.specs.Spells.{term_tree, ands_list, ands_tree, ors_list, ors_tree, GoodTested, GoodTerm, GoodAnds, GoodOrs}
 use Rattle.iris_xpath.specs.Parens.{deep_term, deep_ands, deep_ors}

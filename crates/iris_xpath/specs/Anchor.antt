@@ -18,6 +18,7 @@ use Rattle.iris_xpath.specs.Trees.{compare_of}
 abbrev pub id_path : Path Expression
 id_path = record { parts = []; attribute = Some (record { separator = Slash; name = codes "id" }) }
 
+-- `@id` as a side of a comparison
 abbrev pub own_id : Operand Expression
 own_id = operands.Path id_path
 
@@ -25,6 +26,7 @@ own_id = operands.Path id_path
 abbrev pub IsIdPredicate : List ℕ → Expression → Type 0
 IsIdPredicate id e = IsId id × ((e ≡ compare_of own_id Equal (operands.Literal id)) ⊎ (e ≡ compare_of (operands.Literal id) Equal own_id))
 
+-- no expression of the list is an id predicate
 abbrev pub HasNoId : List Expression → Type 0
 HasNoId [] = Unit {0}
 HasNoId (e ∷ es) = ((id : List ℕ) → IsIdPredicate id e → ⊥) × HasNoId es
@@ -44,9 +46,11 @@ pub record Anchored (s : Step Expression) (label : Label) : Type 0 where
   pub kind : s.test ≡ Kind label.kind
   pub id : FirstId label.id s.predicates
 
+-- the step is anchored, with some label
 abbrev pub IsAnchored : Step Expression → Type 0
 IsAnchored s = (label : Label) × Anchored s label
 
+-- each step is anchored
 abbrev pub AllAnchored : Syntax → Type 0
 AllAnchored [] = Unit {0}
 AllAnchored (s ∷ q) = IsAnchored s × AllAnchored q
@@ -71,8 +75,10 @@ pub record LcaName (q : Syntax) (name : List Label) : Type 0 where
 
 -- ---- for the code: the sides of an id predicate
 
+-- the side is a literal, the well-formed id
 abbrev pub IsIdLiteral : List ℕ → Operand Expression → Type 0
 IsIdLiteral id side = IsId id × (side ≡ operands.Literal id)
 
+-- the comparison is `=`, one side is `@id` and the other the literal of a well-formed id
 abbrev pub IsIdBetween : List ℕ → Operand Expression → Comparison → Operand Expression → Type 0
 IsIdBetween id left c right = IsId id × (c ≡ Equal) × (((left ≡ own_id) × (right ≡ operands.Literal id)) ⊎ ((left ≡ operands.Literal id) × (right ≡ own_id)))

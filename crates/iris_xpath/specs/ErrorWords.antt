@@ -5,6 +5,7 @@ use Rattle.iris_xpath.specs.declared.error.OutsidePart.TheVariants as parts
 use Rattle.iris_xpath.specs.declared.error.QueryLimit.{QueryLimit}
 use Rattle.iris_xpath.specs.declared.error.QueryLimit.TheVariants as limits
 
+-- the word for a part of XPath 1.0 that is outside the language
 abbrev pub part_word : OutsidePart → List ℕ
 part_word parts.Union = codes "union"
 part_word parts.Variable = codes "variable"
@@ -20,6 +21,7 @@ part_word parts.MainPath = codes "main path"
 part_word parts.Dots = codes "dots"
 part_word parts.Attribute = codes "attribute"
 
+-- the word for a limit of queries
 abbrev pub limit_word : QueryLimit → List ℕ
 limit_word limits.Bytes = codes "bytes"
 limit_word limits.Digits = codes "digits"

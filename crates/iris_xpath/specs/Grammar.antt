@@ -54,10 +54,12 @@ mutual
     attribute : Fore → Row → ℕ → Row → Attr
     attr_blank : Attr → ℕ → Attr
 
+  -- a path: parts and a last one, or an attribute at its end
   pub data Road : Type 0 where
     path : Fore → Piece → Road
     attr : Attr → Road
 
+  -- an operand: a path, a literal or a number
   pub data Arg : Type 0 where
     road : Road → Arg
     const : Const → Arg
@@ -68,6 +70,7 @@ mutual
     not_group : Tested → Row → Ors → Group
     group_blank : Group → ℕ → Group
 
+  -- a unit: a path alone, a comparison, or an expression in parentheses
   pub data Term : Type 0 where
     alone : Road → Term
     compared : Arg → Cmp → Arg → Term
@@ -78,6 +81,7 @@ mutual
     one : Term → Ands
     both : Ands → Row → Term → Ands
 
+  -- parts with `or` between them, each with the blanks after it
   pub data Ors : Type 0 where
     one_and : Ands → Ors
     either : Ors → Row → Ands → Ors
@@ -89,20 +93,24 @@ pub data Main : Type 0 where
 
 -- ---- the texts
 
+-- the bytes of a row
 abbrev pub row : Row → List ℕ
 row none = []
 row (more r b) = row r ++ b ∷ []
 
+-- the text of a separator
 abbrev pub sep_text : Sep → List ℕ
 sep_text slash = 47 ∷ []
 sep_text slashes = 47 ∷ 47 ∷ []
 sep_text (sep_blank s b) = sep_text s ++ b ∷ []
 
+-- the text of `.` or `..`
 abbrev pub dots_text : Dots → List ℕ
 dots_text dot = 46 ∷ []
 dots_text dots = 46 ∷ 46 ∷ []
 dots_text (dots_blank d b) = dots_text d ++ b ∷ []
 
+-- the text of a sign of comparison
 abbrev pub cmp_text : Cmp → List ℕ
 cmp_text equal = 61 ∷ []
 cmp_text not_equal = 33 ∷ 61 ∷ []
@@ -112,6 +120,7 @@ cmp_text greater = 62 ∷ []
 cmp_text greater_or_equal = 62 ∷ 61 ∷ []
 cmp_text (cmp_blank c b) = cmp_text c ++ b ∷ []
 
+-- the text of a literal or a number
 abbrev pub const_text : Const → List ℕ
 const_text (literal q v) = q ∷ (row v ++ q ∷ [])
 const_text (number a w) = a ∷ row w
@@ -163,6 +172,7 @@ abbrev mutual
   ors_text (one_and a) = ands_text a
   ors_text (either o g a) = ors_text o ++ 111 ∷ 114 ∷ (row g ++ ands_text a)
 
+-- the text of a whole query
 abbrev pub main_text : Main → List ℕ
 main_text (lead g) = row g
 main_text (step m s t) = main_text m ++ (sep_text s ++ tested_text t)

@@ -31,51 +31,62 @@ pub data Configuration : Type 0 where
   at : State → List Frame → Configuration
   inside : ℕ → List ℕ → Side → List Frame → Configuration
 
+-- the configuration of a state, where there is one, with so much open
 abbrev pub below : List Frame → Option State → Option Configuration
 below fs p = option_map (λ state. at state fs) p
 
 -- ---- separators and steps
 
+-- the text begins with blanks and a `/`
 abbrev pub begin_text : ℕ → Option State
 begin_text b = if is_blank b then Some states.Start else (if b == 47 then Some (states.Slash (spots.Main [])) else None)
 
+-- a step begins with a word or `*`
 abbrev pub begin_step : Separator → Spot → ℕ → Option State
 begin_step sep spot b =
     if is_letter b then Some (states.InWord sep (b ∷ []) spot)
     else (if b == 42 then Some (states.AfterStep (step_of sep Any) spot) else None)
 
+-- `.` stands behind `/` or first, never behind `//`
 abbrev pub begin_dots : Separator → List (Part Expression) → Side → Option State
 begin_dots Slash ps side = Some (states.Dot ps side)
 begin_dots DoubleSlash ps side = None
 
+-- a part begins with `@`, `.`, a word or `*`
 abbrev pub begin_part : Separator → List (Part Expression) → Side → ℕ → Option State
 begin_part sep ps side b =
     if b == 64 then Some (states.AtSign sep ps side)
     else (if b == 46 then begin_dots sep ps side else begin_step sep (spots.Part ps side) b)
 
+-- what follows a separator: in the main path a step, in a predicate a part
 abbrev pub begin_at : Separator → Spot → ℕ → Option State
 begin_at sep (spots.Main ss) b = begin_step sep (spots.Main ss) b
 begin_at sep (spots.Part ps side) b = begin_part sep ps side b
 
+-- a whole separator, which blanks may follow
 abbrev pub after_separator : Separator → Spot → ℕ → Option State
 after_separator sep spot b = if is_blank b then Some (states.Separated sep spot) else begin_at sep spot b
 
+-- one `/`, which a second may follow
 abbrev pub after_slash : Spot → ℕ → Option State
 after_slash spot b = if b == 47 then Some (states.Separated DoubleSlash spot) else after_separator Slash spot b
 
 -- ---- operands
 
+-- an operand begins with a quote, `-`, a digit, or as a part does
 abbrev pub begin_operand : Side → ℕ → Option State
 begin_operand side b =
     if is_quote b then Some (states.InLiteral b side)
     else (if b == 45 then Some (states.Minus side)
     else (if is_digit b then Some (states.InDigits false (b ∷ []) side) else begin_part Slash [] side b))
 
+-- `@`, which blanks and a word follow
 abbrev pub after_at : Separator → List (Part Expression) → Side → ℕ → Option State
 after_at sep ps side b =
     if is_blank b then Some (states.AtSign sep ps side)
     else (if is_letter b then Some (states.InAttribute sep (b ∷ []) ps side) else None)
 
+-- `-`, which blanks and digits follow
 abbrev pub after_minus : Side → ℕ → Option State
 after_minus side b =
     if is_blank b then Some (states.Minus side)
@@ -83,18 +94,23 @@ after_minus side b =
 
 -- ---- comparisons
 
+-- the right side of a comparison begins
 abbrev pub right_of : Operand Expression → Comparison → Level → State
 right_of left c level = states.Right (record { compared = Some (record { left = left; comparison = c }); level = level })
 
+-- a sign to which `=` may still belong
 abbrev pub sign_of : Operand Expression → Comparison → Level → State
 sign_of left c level = states.Sign (record { left = left; comparison = c }) level
 
+-- `!`, which `=` follows
 abbrev pub after_bang : Operand Expression → Level → ℕ → Option State
 after_bang left level b = if b == 61 then Some (right_of left NotEqual level) else None
 
+-- the right side of a comparison: blanks and an operand
 abbrev pub begin_right : Side → ℕ → Option State
 begin_right side b = if is_blank b then Some (states.Right side) else begin_operand side b
 
+-- `<` or `>`, to which `=` may still belong
 abbrev pub after_sign : Compared → Level → ℕ → Option State
 after_sign c level b =
     if b == 61 then Some (right_of c.left (or_equal c.comparison) level)
@@ -102,20 +118,25 @@ after_sign c level b =
 
 -- ---- units
 
+-- no unit stands before
 abbrev pub no_units : Level
 no_units = record { ors = []; ands = [] }
 
+-- a unit more, and `and` after it
 abbrev pub after_and : Level → Expression → Level
 after_and level unit = record { ors = level.ors; ands = add_and level.ands unit }
 
+-- a unit more, and `or` after it
 abbrev pub after_or : Level → Expression → Level
 after_or level unit = record { ors = add_or level.ors (joined_and level.ands unit); ands = [] }
 
+-- a unit begins with `(` or as an operand does
 abbrev pub begin_unit : Level → List Frame → ℕ → Option Configuration
 begin_unit level fs b =
     if b == 40 then Some (at (states.Unit no_units) (frames.Paren false level ∷ fs))
     else below fs (begin_operand (record { compared = None; level = level }) b)
 
+-- blanks and a unit
 abbrev pub unit : Level → List Frame → ℕ → Option Configuration
 unit level fs b = if is_blank b then Some (at (states.Unit level) fs) else begin_unit level fs b
 
@@ -125,20 +146,24 @@ close e [] b = None
 close e (frames.Bracket step spot ∷ fs) b = if b == 93 then Some (at (states.AfterStep (with_predicate step e) spot) fs) else None
 close e (frames.Paren negated level ∷ fs) b = if b == 41 then Some (at (states.AfterGroup (negated_if negated e) level) fs) else None
 
+-- a unit ends at `and`, at `or`, or where the innermost bracket or parenthesis is closed
 abbrev pub end_unit : Expression → Level → List Frame → ℕ → Option Configuration
 end_unit e level fs b =
     if b == 97 then Some (at (states.Link links.A e level) fs)
     else (if b == 111 then Some (at (states.Link links.O e level) fs)
     else close (joined_or level.ors (joined_and level.ands e)) fs b)
 
+-- what follows a closed parenthesis
 abbrev pub after_group : Expression → Level → List Frame → ℕ → Option Configuration
 after_group e level fs b = if is_blank b then Some (at (states.AfterGroup e level) fs) else end_unit e level fs b
 
+-- an operand that is no side of a comparison is a path
 abbrev pub end_alone : Operand Expression → Level → List Frame → ℕ → Option Configuration
 end_alone (operands.Path path) level fs b = end_unit (exists_of path) level fs b
 end_alone (operands.Literal text) level fs b = None
 end_alone (operands.Number value) level fs b = None
 
+-- what follows an operand that is not the right side of a comparison: a sign, or what ends a unit
 abbrev pub end_left : Operand Expression → Level → List Frame → ℕ → Option Configuration
 end_left o level fs b =
     if b == 33 then Some (at (states.Bang o level) fs)
@@ -147,19 +172,24 @@ end_left o level fs b =
     else (if b == 62 then Some (at (sign_of o Greater level) fs)
     else end_alone o level fs b)))
 
+-- what follows an operand, after the left side and the sign where it has them
 abbrev pub end_side : Operand Expression → Option Compared → Level → List Frame → ℕ → Option Configuration
 end_side o None level fs b = end_left o level fs b
 end_side o (Some c) level fs b = end_unit (compare_of c.left c.comparison o) level fs b
 
+-- what follows an operand and its blanks
 abbrev pub end_operand : Operand Expression → Side → List Frame → ℕ → Option Configuration
 end_operand o side fs b = end_side o side.compared side.level fs b
 
+-- what follows an operand
 abbrev pub after_operand : Operand Expression → Side → List Frame → ℕ → Option Configuration
 after_operand o side fs b = if is_blank b then Some (at (states.AfterOperand o side) fs) else end_operand o side fs b
 
+-- the next letter of `and` or `or`
 abbrev pub link_if : Bool → Link → Expression → Level → Option State
 link_if holds link e level = if holds then Some (states.Link link e level) else None
 
+-- what follows the letters of `and` or `or`
 abbrev pub after_link : Link → Expression → Level → List Frame → ℕ → Option Configuration
 after_link links.A e level fs b = below fs (link_if (b == 110) links.An e level)
 after_link links.An e level fs b = below fs (link_if (b == 100) links.And e level)
@@ -169,14 +199,17 @@ after_link links.Or e level fs b = if is_word_byte b then None else unit (after_
 
 -- ---- paths
 
+-- what follows the parts of a path: a further separator, or what ends an operand
 abbrev pub after_path : List (Part Expression) → Side → List Frame → ℕ → Option Configuration
 after_path ps side fs b =
     if b == 47 then Some (at (states.Slash (spots.Part ps side)) fs)
     else end_operand (path_of ps) side fs b
 
+-- what follows `.` or `..`
 abbrev pub after_dots : List (Part Expression) → Side → List Frame → ℕ → Option Configuration
 after_dots ps side fs b = if is_blank b then Some (at (states.AfterDots ps side) fs) else after_path ps side fs b
 
+-- one `.`, which a second may follow
 abbrev pub after_dot : List (Part Expression) → Side → List Frame → ℕ → Option Configuration
 after_dot ps side fs b =
     if b == 46 then Some (at (states.AfterDots (ps ++ parts.Parent ∷ []) side) fs)
@@ -188,15 +221,18 @@ not_if false c level fs = None
 not_if true None level fs = Some (at (states.Unit no_units) (frames.Paren true level ∷ fs))
 not_if true (Some c) level fs = None
 
+-- `(` after a step opens `not(` only where the step is `not` alone and begins a unit
 abbrev pub open_not : Step Expression → List (Part Expression) → Side → List Frame → Option Configuration
 open_not step [] side fs = not_if (is_not step) side.compared side.level fs
 open_not step (p ∷ ps) side fs = None
 
+-- what follows a step with no blank and no predicate
 abbrev pub follow_step : Step Expression → Spot → List Frame → ℕ → Option Configuration
 follow_step step (spots.Main ss) fs b = if b == 47 then Some (at (states.Slash (spots.Main (ss ++ step ∷ []))) fs) else None
 follow_step step (spots.Part ps side) fs b =
     if b == 40 then open_not step ps side fs else after_path (ps ++ parts.Step step ∷ []) side fs b
 
+-- what follows a step: blanks, a predicate, or what ends it
 abbrev pub after_step : Step Expression → Spot → List Frame → ℕ → Option Configuration
 after_step step spot fs b =
     if is_blank b then Some (at (states.AfterStep step spot) fs)
@@ -205,9 +241,11 @@ after_step step spot fs b =
 
 -- ---- the machine, in which a function tells what a word tests
 
+-- a literal goes on up to its quote
 abbrev pub in_literal : ℕ → List ℕ → Side → List Frame → ℕ → Option Configuration
 in_literal q text side fs b = if b == q then Some (at (states.AfterOperand (operands.Literal text) side) fs) else Some (inside q (text ++ b ∷ []) side fs)
 
+-- the configuration after one byte
 abbrev pub next : (List ℕ → NameTest) → Configuration → ℕ → Option Configuration
 next named (at states.Start fs) b = below fs (begin_text b)
 next named (at (states.Slash spot) fs) b = below fs (after_slash spot b)
@@ -238,6 +276,7 @@ abbrev pub with_last : Spot → Step Expression → Option (List (Step Expressio
 with_last (spots.Main ss) step = Some (ss ++ step ∷ [])
 with_last (spots.Part ps side) step = None
 
+-- the steps, where the text may end there
 abbrev pub accept : (List ℕ → NameTest) → Configuration → Option (List (Step Expression))
 accept named (at (states.InWord sep word spot) fs) = with_last spot (step_of sep (named word))
 accept named (at (states.AfterStep step spot) fs) = with_last spot step

@@ -24,21 +24,26 @@ use Rattle.iris_xpath.specs.Trees.{is_none}
 
 -- ---- what stands before a state
 
+-- whether a step with this test and these predicates is a word alone
 abbrev pub is_word_in : NameTest → List Expression → Bool
 is_word_in Any es = false
 is_word_in (Kind kind) es = is_none es
 is_word_in (Tag tag) es = is_none es
 
+-- whether a step is a word alone
 abbrev pub is_word : Step Expression → Bool
 is_word s = is_word_in s.test s.predicates
 
+-- an operand with that ending stands before
 abbrev pub after_operand : Ending → Side → Last
 after_operand ending side = lasts.Operand ending (is_some side.compared)
 
+-- a step of the main path or of a predicate stands before
 abbrev pub after_step : Bool → Spot → Last
 after_step word (spots.Main ss) = lasts.MainStep word
 after_step word (spots.Part ps side) = after_operand (if word then endings.Word else endings.Other) side
 
+-- what stands before, by the state of the reader
 abbrev pub last_of : State → Last
 last_of states.Start = lasts.Other
 last_of (states.Slash (spots.Main ss)) = lasts.MainSeparator
@@ -71,6 +76,7 @@ last_of (states.Link links.O e level) = lasts.Other
 
 -- ---- the rows of the table
 
+-- an operand that ends in a word
 abbrev pub is_word_ending : Ending → Bool
 is_word_ending endings.Word = true
 is_word_ending endings.Attribute = true
@@ -79,6 +85,7 @@ is_word_ending endings.Number = false
 is_word_ending endings.Literal = false
 is_word_ending endings.Other = false
 
+-- an operand that ends in a digit
 abbrev pub is_digit_ending : Ending → Bool
 is_digit_ending endings.Word = false
 is_digit_ending endings.Attribute = false
@@ -87,6 +94,7 @@ is_digit_ending endings.Number = false
 is_digit_ending endings.Literal = false
 is_digit_ending endings.Other = false
 
+-- an operand that is a number
 abbrev pub is_number_ending : Ending → Bool
 is_number_ending endings.Word = false
 is_number_ending endings.Attribute = false
@@ -95,6 +103,7 @@ is_number_ending endings.Number = true
 is_number_ending endings.Literal = false
 is_number_ending endings.Other = false
 
+-- an operand that is a literal
 abbrev pub is_literal_ending : Ending → Bool
 is_literal_ending endings.Word = false
 is_literal_ending endings.Attribute = false
@@ -103,6 +112,7 @@ is_literal_ending endings.Number = false
 is_literal_ending endings.Literal = true
 is_literal_ending endings.Other = false
 
+-- whether a word stands before
 abbrev pub after_word : Last → Bool
 after_word (lasts.MainStep word) = word
 after_word (lasts.Operand ending right) = is_word_ending ending
@@ -115,6 +125,7 @@ after_word lasts.AtSign = false
 after_word lasts.Minus = false
 after_word lasts.Other = false
 
+-- no byte follows that may stand in a word
 abbrev pub ends_word : List ℕ → Bool
 ends_word [] = true
 ends_word (b ∷ bs) = not (is_word_byte b)
@@ -123,21 +134,26 @@ ends_word (b ∷ bs) = not (is_word_byte b)
 abbrev pub is_whole_word : List ℕ → List ℕ → Bool
 is_whole_word word rest = bytes_eq (take (length word) rest) word && ends_word (drop (length word) rest)
 
+-- `=` stands at the front
 abbrev pub is_equals : List ℕ → Bool
 is_equals [] = false
 is_equals (b ∷ bs) = b == 61
 
+-- `=`, `!=`, `<` or `>` stands at the front
 abbrev pub is_sign : List ℕ → Bool
 is_sign [] = false
 is_sign (b ∷ bs) = (b == 61) || (b == 60) || (b == 62) || ((b == 33) && is_equals bs)
 
+-- `]`, `)`, `and` or `or` stands at the front
 abbrev pub closes : ℕ → List ℕ → Bool
 closes b rest = (b == 93) || (b == 41) || is_whole_word (codes "and") rest || is_whole_word (codes "or") rest
 
+-- the byte is `.`
 abbrev pub is_point : Option ℕ → Bool
 is_point None = false
 is_point (Some b) = b == 46
 
+-- a digit stands before
 abbrev pub ends_in_digit : Last → Bool
 ends_in_digit (lasts.MainStep word) = false
 ends_in_digit (lasts.Operand ending right) = is_digit_ending ending
@@ -150,9 +166,11 @@ ends_in_digit lasts.AtSign = false
 ends_in_digit lasts.Minus = false
 ends_in_digit lasts.Other = false
 
+-- `.` right after a digit, or a digit right after `.`
 abbrev pub is_decimal : Last → Option ℕ → ℕ → Bool
 is_decimal last before b = if b == 46 then ends_in_digit last else is_digit b && is_point before
 
+-- `+`, `-`, `*`, `div` or `mod` after an operand, or anything after `-`
 abbrev pub is_arithmetic : Last → ℕ → List ℕ → Bool
 is_arithmetic (lasts.Operand ending right) b rest = (b == 43) || (b == 45) || (b == 42) || is_whole_word (codes "div") rest || is_whole_word (codes "mod") rest
 is_arithmetic lasts.Minus b rest = true
@@ -165,6 +183,7 @@ is_arithmetic lasts.RightBegins b rest = false
 is_arithmetic lasts.AtSign b rest = false
 is_arithmetic lasts.Other b rest = false
 
+-- a sign of comparison after a truth value, or `(` after a sign
 abbrev pub is_truth_value : Last → ℕ → List ℕ → Bool
 is_truth_value lasts.Group b rest = is_sign rest
 is_truth_value (lasts.Operand ending right) b rest = right && is_sign rest
@@ -177,6 +196,7 @@ is_truth_value lasts.AtSign b rest = false
 is_truth_value lasts.Minus b rest = false
 is_truth_value lasts.Other b rest = false
 
+-- a number stands before that is no side of a comparison yet
 abbrev pub is_lone_number : Last → Bool
 is_lone_number (lasts.Operand ending right) = not right && is_number_ending ending
 is_lone_number (lasts.MainStep word) = false
@@ -189,6 +209,7 @@ is_lone_number lasts.AtSign = false
 is_lone_number lasts.Minus = false
 is_lone_number lasts.Other = false
 
+-- a literal stands before that is no side of a comparison yet
 abbrev pub is_lone_literal : Last → Bool
 is_lone_literal (lasts.Operand ending right) = not right && is_literal_ending ending
 is_lone_literal (lasts.MainStep word) = false
@@ -201,6 +222,7 @@ is_lone_literal lasts.AtSign = false
 is_lone_literal lasts.Minus = false
 is_lone_literal lasts.Other = false
 
+-- `[` or `/` after an attribute
 abbrev pub attribute_ends : Ending → ℕ → Option OutsidePart
 attribute_ends endings.Attribute b = if (b == 91) || (b == 47) then Some whats.Attribute else None
 attribute_ends endings.Word b = None

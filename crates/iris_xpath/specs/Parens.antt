@@ -53,6 +53,7 @@ abbrev mutual
   deep_ors k d (one_and a) = deep_ands k d a
   deep_ors k d (either o g a) = deep_ands k (deep_ors k d o) a
 
+-- the greatest number of parentheses around anything in a query, or d where that is greater
 abbrev pub deep_main : ℕ → Main → ℕ
 deep_main d (lead g) = d
 deep_main d (step m s t) = deep_tested (deep_main d m) t
@@ -69,6 +70,7 @@ parens_in [] = 0
 parens_in (frames.Bracket x spot ∷ fs) = 0
 parens_in (frames.Paren negated level ∷ fs) = suc (parens_in fs)
 
+-- the innermost parentheses of a configuration
 abbrev pub parens_at : Configuration → ℕ
 parens_at (at p fs) = parens_in fs
 parens_at (inside q text side fs) = parens_in fs

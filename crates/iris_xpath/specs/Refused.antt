@@ -13,6 +13,7 @@ use Rattle.iris_xpath.specs.Outside.{what_at, last_of}
 abbrev pub Judged : (List ℕ → NameTest) → List ℕ → ℕ → Type 0
 Judged n text p = (p ≤ length text) × IsPrefix n (take p text) × (p < length text → IsPrefix n (take (p + 1) text) → ⊥) × (p ≡ length text → (q : Syntax) → Reads n text q → ⊥)
 
+-- the last of some bytes
 abbrev pub last_byte : List ℕ → Option ℕ
 last_byte bs = slice_get bs (length bs - 1)
 

@@ -20,16 +20,19 @@ use Rattle.iris_xpath.specs.Grammar.{Row, none, more, Sep, slash, slashes, sep_b
 
 -- ---- the syntax trees, where a function tells what a word tests
 
+-- a separator
 abbrev pub sep_tree : Sep → Separator
 sep_tree slash = Slash
 sep_tree slashes = DoubleSlash
 sep_tree (sep_blank s b) = sep_tree s
 
+-- `.` or `..`
 abbrev pub dots_tree : Dots → Part Expression
 dots_tree dot = parts.Itself
 dots_tree dots = parts.Parent
 dots_tree (dots_blank d b) = dots_tree d
 
+-- a comparison
 abbrev pub cmp_tree : Cmp → Comparison
 cmp_tree equal = Equal
 cmp_tree not_equal = NotEqual
@@ -39,6 +42,7 @@ cmp_tree greater = Greater
 cmp_tree greater_or_equal = GreaterOrEqual
 cmp_tree (cmp_blank c b) = cmp_tree c
 
+-- a literal or a number
 abbrev pub const_tree : Const → Operand Expression
 const_tree (literal q v) = operands.Literal (row v)
 const_tree (number a w) = operands.Number (number_of false (a ∷ row w))
@@ -105,18 +109,21 @@ abbrev mutual
   ors_tree n (one_and a) = ands_tree n a
   ors_tree n (either o g a) = joined_or (ors_list n o) (ands_tree n a)
 
+-- the steps of the main path
 abbrev pub main_tree : (List ℕ → NameTest) → Main → Syntax
 main_tree n (lead g) = []
 main_tree n (step m s t) = main_tree n m ++ tested_tree n (sep_tree s) t ∷ []
 
 -- ---- a word is as long as it can be: where a unit begins or ends with a word, `and` and `or` need a blank
 
+-- whether a step begins with a word
 abbrev pub starts_tested : Tested → Bool
 starts_tested (word a w) = true
 starts_tested star = false
 starts_tested (predicate t g o) = starts_tested t
 starts_tested (tested_blank t b) = starts_tested t
 
+-- whether a part begins with a word
 abbrev pub starts_piece : Piece → Bool
 starts_piece (tested t) = starts_tested t
 starts_piece (dotted d) = false
@@ -126,14 +133,17 @@ abbrev pub starts_path : Fore → Piece → Bool
 starts_path no_fore p = starts_piece p
 starts_path (fore f q s) p = starts_path f q
 
+-- whether parts, if any, begin with a word
 abbrev pub starts_at : Fore → Bool
 starts_at no_fore = false
 starts_at (fore f q s) = starts_path f q
 
+-- whether a path that ends in an attribute begins with a word
 abbrev pub starts_attr : Attr → Bool
 starts_attr (attribute f g a w) = starts_at f
 starts_attr (attr_blank a b) = starts_attr a
 
+-- whether a path begins with a word
 abbrev pub starts_road : Road → Bool
 starts_road (path f p) = starts_path f p
 starts_road (attr a) = starts_attr a
@@ -145,59 +155,72 @@ starts_const (number a w) = true
 starts_const (negative g a w) = true
 starts_const (const_blank c b) = starts_const c
 
+-- whether an operand begins with what may stand in a word
 abbrev pub starts_arg : Arg → Bool
 starts_arg (road r) = starts_road r
 starts_arg (const c) = starts_const c
 
+-- whether what has parentheses begins with a word
 abbrev pub starts_group : Group → Bool
 starts_group (group g o) = false
 starts_group (not_group t g o) = true
 starts_group (group_blank g b) = starts_group g
 
+-- whether a unit begins with what may stand in a word
 abbrev pub starts_term : Term → Bool
 starts_term (alone r) = starts_road r
 starts_term (compared l c r) = starts_arg l
 starts_term (grouped g) = starts_group g
 
+-- whether an `and` of units begins with what may stand in a word
 abbrev pub starts_ands : Ands → Bool
 starts_ands (one t) = starts_term t
 starts_ands (both a g t) = starts_ands a
 
+-- whether a step ends in a word, with no blank
 abbrev pub ends_tested : Tested → Bool
 ends_tested (word a w) = true
 ends_tested star = false
 ends_tested (predicate t g o) = false
 ends_tested (tested_blank t b) = false
 
+-- whether a part ends in a word
 abbrev pub ends_piece : Piece → Bool
 ends_piece (tested t) = ends_tested t
 ends_piece (dotted d) = false
 
+-- whether an attribute ends in its word
 abbrev pub ends_attr : Attr → Bool
 ends_attr (attribute f g a w) = true
 ends_attr (attr_blank a b) = false
 
+-- whether a path ends in a word
 abbrev pub ends_road : Road → Bool
 ends_road (path f p) = ends_piece p
 ends_road (attr a) = ends_attr a
 
+-- whether an operand ends in a word
 abbrev pub ends_arg : Arg → Bool
 ends_arg (road r) = ends_road r
 ends_arg (const c) = false
 
+-- whether a unit ends in a word
 abbrev pub ends_term : Term → Bool
 ends_term (alone r) = ends_road r
 ends_term (compared l c r) = ends_arg r
 ends_term (grouped g) = false
 
+-- whether an `and` of units ends in a word
 abbrev pub ends_ands : Ands → Bool
 ends_ands (one t) = ends_term t
 ends_ands (both a g t) = ends_term t
 
+-- whether an `or` of parts ends in a word
 abbrev pub ends_ors : Ors → Bool
 ends_ors (one_and a) = ends_ands a
 ends_ors (either o g a) = ends_ands a
 
+-- whether a row has no byte
 abbrev pub is_empty : Row → Bool
 is_empty none = true
 is_empty (more r b) = false
@@ -208,6 +231,7 @@ Apart g starts = (is_empty g && starts) ≡ false
 
 -- ---- which bytes may stand where
 
+-- each byte of a row passes the test
 abbrev pub Each : (ℕ → Bool) → Row → Type 0
 Each test none = Unit {0}
 Each test (more r b) = Each test r × (test b ≡ true)
@@ -217,16 +241,19 @@ abbrev pub HasNo : ℕ → Row → Type 0
 HasNo q none = Unit {0}
 HasNo q (more r b) = HasNo q r × ((b == q) ≡ false)
 
+-- blanks alone follow the separator
 abbrev pub GoodSep : Sep → Type 0
 GoodSep slash = Unit {0}
 GoodSep slashes = Unit {0}
 GoodSep (sep_blank s b) = GoodSep s × (is_blank b ≡ true)
 
+-- blanks alone follow `.` or `..`
 abbrev pub GoodDots : Dots → Type 0
 GoodDots dot = Unit {0}
 GoodDots dots = Unit {0}
 GoodDots (dots_blank d b) = GoodDots d × (is_blank b ≡ true)
 
+-- blanks alone follow the sign
 abbrev pub GoodCmp : Cmp → Type 0
 GoodCmp equal = Unit {0}
 GoodCmp not_equal = Unit {0}
@@ -236,6 +263,7 @@ GoodCmp greater = Unit {0}
 GoodCmp greater_or_equal = Unit {0}
 GoodCmp (cmp_blank c b) = GoodCmp c × (is_blank b ≡ true)
 
+-- a literal between quotes, or digits; blanks alone follow
 abbrev pub GoodConst : Const → Type 0
 GoodConst (literal q v) = (is_quote q ≡ true) × HasNo q v
 GoodConst (number a w) = (is_digit a ≡ true) × Each is_digit w
@@ -295,6 +323,7 @@ abbrev mutual
   GoodOrs (one_and a) = GoodAnds a
   GoodOrs (either o g a) = GoodOrs o × (ends_ors o ≡ false) × Each is_blank g × Apart g (starts_ands a) × GoodAnds a
 
+-- each part of the query has the bytes that may stand there
 abbrev pub GoodMain : Main → Type 0
 GoodMain (lead g) = Each is_blank g
 GoodMain (step m s t) = GoodMain m × GoodSep s × GoodTested t

@@ -28,6 +28,7 @@ pub record IsQuery (q : Syntax) : Type 0 where
 abbrev pub Passes : (List ℕ → NameTest) → List ℕ → QueryLimit → Type 0
 Passes n text w = (q : Syntax) × ((m : Main) × Spells n text q m × (limit_of q (parens_of m) ≡ Some w))
 
+-- the limit is passed, and none before it
 abbrev pub Passed : (List ℕ → NameTest) → List ℕ → QueryLimit → Type 0
 Passed n text which.Bytes = MAX_QUERY_BYTES < length text
 Passed n text which.Digits = Passes n text which.Digits
