@@ -1,10 +1,25 @@
-pub mod GivesQuery
-pub mod IsQueryWord
+mod Again
+mod Anchors
+mod Begins
+mod Deeper
+mod Digits
+mod Endings
+mod Exact
+mod High
+mod Judging
+mod Laws
+mod Leads
+mod Numbers
+mod Pads
 pub mod PlaceOrder
-pub mod ReadsAll
-pub mod ReadsMain
-pub mod ReadsOnce
-pub mod ReadsPredicate
+mod Runs
 pub mod SelectedPlaces
+mod Stacks
+mod Tallies
 pub mod ThinQuery
+mod Traces
 pub mod Walk
+mod Wholes
+mod Words
+mod Writing
+mod Written

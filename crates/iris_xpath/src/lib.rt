@@ -1,18 +1,33 @@
-//! Queries as syntax trees, and the parser of the thin form: steps of the main path with predicates on
-//! attributes.
+//! Queries: their syntax trees, and reading and printing them. The language is a part of XPath 1.0
+//! (sections 2 to 3.4, abbreviated syntax).
 #![tactic(auto)]
 
+mod anchor;
+mod bytes;
 mod copying;
 mod error;
 mod expression;
+mod operands;
+mod outside;
 mod parser;
+mod printing;
 mod query;
+mod stack;
+mod state;
+mod steps;
+mod tally;
 #[cfg(test)]
 mod tests;
+mod turn;
+mod units;
+mod word;
 
-pub use error::QueryError;
+pub use anchor::{lca, lca_name};
+pub use error::{OutsidePart, QueryError, QueryLimit};
 pub use expression::{
     Attribute, Comparison, Expression, NameTest, Operand, Part, Path, Separator, Step,
 };
 pub use parser::parse;
+pub use printing::print;
 pub use query::Query;
+pub use tally::depth;

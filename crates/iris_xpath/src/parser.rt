@@ -1,242 +1,225 @@
-//! Reads a query of the thin form from its text.
-ghost use Rattle.std.specs.Prelude.{◌≡◌, ◌≢◌, ℕ, ◌≤◌, ◌++◌, List, IfOk, IfSome, IfNone, MatchOption, IsTrue, ◌↔◌, ◌==◌, Contains, codes, take, drop, slice_index};
-ghost use Rattle.std.specs.List.{AllByRecursion};
-ghost use Rattle.std.specs.Str.{IsCharBoundary};
+//! Reads a query from its text.
+ghost use Rattle.std.specs.Prelude.{◌≡◌, ◌≢◌, ℕ, ◌≤◌, ◌<◌, ◌-◌, max, length, take, List, true, [], ◌∷◌, ◌++◌, IfOk, IfErr, MatchOption};
+ghost use Rattle.iris_xpath.specs.Bytes as class;
+ghost use Rattle.iris_xpath.specs.Trees as trees;
+ghost use Rattle.iris_xpath.specs.Machine as machine;
+ghost use Rattle.iris_xpath.specs.Machine.{IsBytewise, at};
+ghost use Rattle.iris_xpath.specs.declared.state.State.{State};
+ghost use Rattle.iris_xpath.specs.declared.state.Frame.{Frame};
+ghost use Rattle.iris_xpath.specs.declared.expression.Operand.{Operand};
+ghost use Rattle.iris_xpath.specs.Reading.{Goes, IsFree, Reached, Traced};
+ghost use Rattle.iris_xpath.specs.Refused.{Refused, IsAt, last_byte};
+ghost use Rattle.iris_xpath.specs.Grammar.{Main};
+ghost use Rattle.iris_xpath.specs.Spells.{Spells, Reads};
+ghost use Rattle.iris_xpath.specs.Parens.{parens_of, parens_in};
+ghost use Rattle.iris_xpath.specs.Outside as outside;
+ghost use Rattle.iris_xpath.specs.Told.{Found, Told, Gives};
 ghost use Rattle.iris_xpath.specs.Syntax.{Syntax};
-ghost use Rattle.iris_xpath.specs.ThinQuery.{equality};
-ghost use Rattle.iris_base.specs.Letters.{has};
-ghost use Rattle.iris_base.specs.declared.letters.Letters.TheVariants as letters;
-ghost use Rattle.iris_base.specs.declared.limits.TheConstants.{MAX_OPERANDS};
-ghost use Rattle.iris_xpath.specs.declared.parser.TheConstants.{BRACKET};
-ghost use Rattle.iris_xpath.specs.Grammar.{IsWordByte, IsQueryWord, HasNoQuote, ReadsPredicate, ReadsAll, ReadsMain, Reads, operands_of, Within};
-ghost use Rattle.iris_xpath.specs.Follows.{EndsWord, EndsPredicates, EndsStep};
-ghost use Rattle.iris_xpath.specs.GivesQuery.{GivesQuery, GivesQueryFront};
 
-use crate::error::QueryError;
-use crate::expression::{
-    Attribute, Comparison, Expression, NameTest, Operand, Path, Separator, Step,
-};
+use crate::error::{QueryError, QueryLimit};
+use crate::expression::{Expression, Operand, Step};
+use crate::outside::{Last, what_at};
 use crate::query::Query;
-use iris_tree::{Kind, Letters, MAX_OPERANDS, MAX_QUERY_BYTES, MAX_STEPS, Mem, Sequence, Text};
+use crate::stack::Stack;
+use crate::state::{Side, Spot, State};
+use crate::steps::{step_of, test_of};
+use crate::tally::limit_passed;
+use crate::turn::turn;
+use iris_tree::{Kind, MAX_QUERY_BYTES, Mem, Sequence, Text};
 use std::alloc::Global;
 
-/// What stands before each step in the text of a query.
-const SLASH: u8 = b'/';
-
-/// What a predicate begins with.
-const BRACKET: u8 = b'[';
-
-/// What stands on both sides of a value.
-const QUOTE: u8 = b'\'';
-
-/// Reads a query of the thin form of XPath 1.0 (sections 2 and 2.1, abbreviated syntax): one step or
-/// more, each `/`, one of the `kinds`, and any number of predicates `[@name='value']`, with no blank
-/// between them. A name is an ASCII letter and then letters, digits, `_` and `-`, as long as it can be;
-/// a value is any text without `'`.
+/// Reads a query, in abbreviated syntax (XPath 1.0, 2.5). A word of a step is a kind where it is one of
+/// the `kinds`, and else a tag.
 ///
-/// `Later` comes exactly where the text is not of this form, or has more than `MAX_QUERY_BYTES` bytes,
-/// `MAX_STEPS` steps or `MAX_OPERANDS` operands, two for each predicate.
-#[tactic(auto, using(crate::proofs::ReadsOnce::reads_once))]
+/// Of a text that is none, `Syntax` and `Outside` tell the least offset such that so many bytes begin a
+/// query and one more do not. Of one that passes a limit, `TooLarge` tells the first, in the order of
+/// `QueryLimit`.
 pub fn parse(alloc: Global, text: &str, kinds: &[Kind]) -> Result<Query, QueryError>
-    ensures found { IfOk result (λ q. Reads kinds.now text.now q × Within text.now q) }
-    ensures only { (q : Syntax) → Reads kinds.now text.now q → Within text.now q → GivesQuery result q }
-    ensures once { (p q : Syntax) → Reads kinds.now text.now p → Reads kinds.now text.now q → p ≡ q }
+    ensures found { IfOk result (λ q. Found (trees.named kinds.now) text.now q) }
+    ensures told { IfErr result (λ e. Told (trees.named kinds.now) text.now e) }
+    ensures only { (q : Syntax) → Found (trees.named kinds.now) text.now q → Gives q result }
+    ensures once { (p q : Syntax) → Reads (trees.named kinds.now) text.now p → Reads (trees.named kinds.now) text.now q → p ≡ q }
 {
     if text.len() > MAX_QUERY_BYTES {
-        return Err(QueryError::Later);
+        return Err(QueryError::TooLarge {
+            which: QueryLimit::Bytes,
+        });
     }
-    let steps = read_steps(alloc, kinds, text)?;
-    if steps.is_empty() || steps.len() > MAX_STEPS || !has_few_operands(steps.as_slice()) {
-        return Err(QueryError::Later);
+    let (steps, parens) = read(alloc, text, kinds)?;
+    match limit_passed(steps.as_slice(), parens) {
+        Some(which) => Err(QueryError::TooLarge { which }),
+        None => Ok(Query::new(steps)),
     }
-    Ok(Query::new(steps))
 }
 
-/// Whether the predicates of all the steps have no more than `MAX_OPERANDS` operands.
-fn has_few_operands(steps: &[Step<Expression>]) -> bool
-    ensures { IsTrue result ↔ (operands_of steps.now ≤ MAX_OPERANDS) }
-{
-    let mut room = MAX_OPERANDS / 2;
-    for step in steps {
-        match room.checked_sub(step.predicates.len()) {
-            Some(left) => room = left,
-            None => return false,
-        }
-    }
-    true
-}
-
-/// The steps that the whole text is.
-fn read_steps(
+// The steps that the whole text is, and how deep parentheses are nested inside one predicate.
+fn read(
     alloc: Global,
-    kinds: &[Kind],
     text: &str,
-) -> Result<Sequence<Step<Expression>>, QueryError>
-    ensures found { IfOk result (λ steps. ReadsAll (ReadsMain kinds.now) text.now steps) }
-    ensures only { (q : Syntax) → ReadsAll (ReadsMain kinds.now) text.now q → GivesQuery result q }
-{
-    let mut steps = Sequence::new(alloc);
-    let mut rest = text;
-    'steps: while !rest.is_empty() {
-        let (step, after) = read_step(alloc, kinds, rest)?;
-        steps.push(step)?;
-        rest = after;
-    }
-    Ok(steps)
-}
-
-/// The step at the front, and what follows it.
-fn read_step<'a>(
-    alloc: Global,
     kinds: &[Kind],
-    text: &'a str,
-) -> Result<(Step<Expression>, &'a str), QueryError>
-    ensures found { IfOk result (λ r. (front : List ℕ) × (text.now ≡ front ++ r.1.now) × ReadsMain kinds.now front r.0) }
-    ensures only { (front z : List ℕ) (s : Step Expression) → ReadsMain kinds.now front s → EndsStep z → text.now ≡ front ++ z → GivesQueryFront result s z }
+) -> Result<(Sequence<Step<Expression>>, usize), QueryError>
+    ensures found { IfOk result (λ r. (m : Main) × Spells (trees.named kinds.now) text.now r.0 m × (r.1 ≡ parens_of m)) }
+    ensures refused { IfErr result (λ e. Refused (trees.named kinds.now) text.now e) }
 {
-    let Some(rest) = strip_front(text, "/") else {
-        return Err(QueryError::Later);
-    };
-    let Some((word, rest)) = split_word(rest) else {
-        return Err(QueryError::Later);
-    };
-    let Some(kind) = find_kind(kinds, word) else {
-        return Err(QueryError::Later);
-    };
-    let (predicates, rest) = read_predicates(alloc, rest)?;
-    let step = Step {
-        separator: Separator::Slash,
-        test: NameTest::Kind(kind),
-        predicates,
-    };
-    Ok((step, rest))
-}
-
-/// The kind of that name.
-fn find_kind(kinds: &[Kind], name: &str) -> Option<Kind>
-    ensures { MatchOption result (Contains kinds.now name.now → ⊥) (λ kind. (kind ≡ name.now) × Contains kinds.now name.now) }
-{
-    for kind in kinds {
-        if kind.as_str() == name {
-            return Some(*kind);
+    let mut stack = Stack::new(alloc);
+    let mut state = State::Start;
+    let mut rest = text;
+    let mut parens: usize = 0;
+    'bytes: while !rest.is_empty() {
+        match advance(alloc, kinds, &mut stack, text, state, rest) {
+            Ok((next, after)) => {
+                state = next;
+                rest = after;
+                parens = parens.max(stack.parens());
+            }
+            Err(error) => return Err(error),
         }
     }
-    None
-}
-
-/// The predicates at the front, and what follows them.
-fn read_predicates(alloc: Global, text: &str) -> Result<(Sequence<Expression>, &str), QueryError>
-    ensures found { IfOk result (λ r. (front : List ℕ) × (text.now ≡ front ++ r.1.now) × ReadsAll ReadsPredicate front r.0) }
-    ensures only { (front z : List ℕ) (ps : List Expression) → ReadsAll ReadsPredicate front ps → EndsPredicates z → text.now ≡ front ++ z → GivesQueryFront result ps z }
-{
-    let mut predicates = Sequence::new(alloc);
-    let mut rest = text;
-    'predicates: while begins_predicate(rest) {
-        let (predicate, after) = read_predicate(alloc, rest)?;
-        predicates.push(predicate)?;
-        rest = after;
+    match whole(alloc, kinds, state) {
+        Ok(Some(steps)) => Ok((steps, parens)),
+        Ok(None) => Err(QueryError::Syntax { at: text.len() }),
+        Err(_) => Err(QueryError::Memory),
     }
-    Ok((predicates, rest))
 }
 
-/// Whether the text goes on as a predicate does.
-fn begins_predicate(text: &str) -> bool
-    ensures { result ≡ (slice_index text.now 0 == BRACKET) }
+// The next state, and what follows the bytes that lead there: one byte, or the rest of a literal.
+fn advance<'a>(
+    alloc: Global,
+    kinds: &[Kind],
+    stack: &mut Stack,
+    text: &str,
+    state: State,
+    rest: &'a str,
+) -> Result<(State, &'a str), QueryError>
+    requires reached { Reached (trees.named kinds.now) text.now state stack.now rest.now }
+    requires some { rest.now ≢ [] }
+    ensures ok { IfOk result (λ r. Reached (trees.named kinds.now) text.now r.0 stack.new r.1.now) }
+    ensures traced { (d : ℕ) → Traced (trees.named kinds.now) text.now state stack.old rest.now d → IfOk result (λ r. Traced (trees.named kinds.now) text.now r.0 stack.new r.1.now (max d (parens_in stack.new))) }
+    ensures shorter { IfOk result (λ r. length r.1.now < length rest.now) }
+    ensures err { IfErr result (λ e. Refused (trees.named kinds.now) text.now e) }
 {
-    text.as_bytes().first() == Some(&BRACKET)
-}
-
-/// The predicate at the front, and what follows it.
-fn read_predicate(alloc: Global, text: &str) -> Result<(Expression, &str), QueryError>
-    ensures found { IfOk result (λ r. (front : List ℕ) × (text.now ≡ front ++ r.1.now) × ReadsPredicate front r.0) }
-    ensures only { (front z : List ℕ) (p : Expression) → ReadsPredicate front p → text.now ≡ front ++ z → GivesQueryFront result p z }
-{
-    let Some(rest) = strip_front(text, "[@") else {
-        return Err(QueryError::Later);
-    };
-    let Some((name, rest)) = split_word(rest) else {
-        return Err(QueryError::Later);
-    };
-    let Some(rest) = strip_front(rest, "='") else {
-        return Err(QueryError::Later);
-    };
-    let Some((value, rest)) = split_quote(rest) else {
-        return Err(QueryError::Later);
-    };
-    let Some(rest) = strip_front(rest, "]") else {
-        return Err(QueryError::Later);
-    };
-    Ok((equality(alloc, name, value)?, rest))
-}
-
-/// The expression `@name='value'`, with texts of its own.
-fn equality(alloc: Global, name: &str, value: &str) -> Mem<Expression>
-    ensures { IfOk result (λ made. made ≡ equality (record { name = name.now; value = value.now })) }
-{
-    let attribute = Attribute {
-        separator: Separator::Slash,
-        name: Text::of(alloc, name)?,
-    };
-    Ok(Expression::Compare {
-        left: Operand::Path(Path {
-            parts: Sequence::new(alloc),
-            attribute: Some(attribute),
-        }),
-        comparison: Comparison::Equal,
-        right: Operand::Literal(Text::of(alloc, value)?),
-    })
-}
-
-/// What follows `front`, where the text begins with it.
-fn strip_front<'a>(text: &'a str, front: &str) -> Option<&'a str>
-    ensures { MatchOption result ((z : List ℕ) → text.now ≢ front.now ++ z) (λ r. text.now ≡ front.now ++ r.now) }
-{
-    text.strip_prefix(front)
-}
-
-/// What stands before the first quote, and what follows it.
-fn split_quote(text: &str) -> Option<(&str, &str)>
-    ensures found { MatchOption result (HasNoQuote text.now) (λ r. (text.now ≡ r.0.now ++ (codes "'" ++ r.1.now)) × HasNoQuote r.0.now) }
-    ensures only { (v z : List ℕ) → HasNoQuote v → text.now ≡ v ++ (codes "'" ++ z) → MatchOption result ⊥ (λ r. (r.0.now ≡ v) × (r.1.now ≡ z)) }
-{
-    text.split_once('\'')
-}
-
-/// The longest word at the front, and what follows it.
-#[tactic(auto, using(crate::proofs::IsQueryWord::word_found, crate::proofs::IsQueryWord::word_none))]
-fn split_word(text: &str) -> Option<(&str, &str)>
-    ensures found { IfSome result (λ r. (text.now ≡ r.0.now ++ r.1.now) × IsQueryWord r.0.now × EndsWord r.1.now) }
-    ensures none { IfNone result ((w z : List ℕ) → IsQueryWord w → text.now ≢ w ++ z) }
-{
-    if !begins_word(text) {
-        return None;
+    match state {
+        State::InLiteral { quote, side } => match read_literal(alloc, quote, side, rest) {
+            Ok(Some(read)) => Ok(read),
+            Ok(None) => Err(QueryError::Syntax { at: text.len() }),
+            Err(_) => Err(QueryError::Memory),
+        },
+        other => {
+            let last = Last::of(&other);
+            match read_byte(alloc, kinds, stack, other, rest) {
+                Ok(Some(read)) => Ok(read),
+                Ok(None) => Err(refusal(last, text, rest)),
+                Err(_) => Err(QueryError::Memory),
+            }
+        }
     }
-    let end = word_len(text);
-    Some((&text[..end], &text[end..]))
 }
 
-/// Whether the text begins with a letter.
-fn begins_word(text: &str) -> bool
-    ensures { result ≡ has letters.Letter (slice_index text.now 0) }
+// The state after the byte at the front, and what follows it.
+fn read_byte<'a>(
+    alloc: Global,
+    kinds: &[Kind],
+    stack: &mut Stack,
+    state: State,
+    rest: &'a str,
+) -> Mem<Option<(State, &'a str)>>
+    requires bytewise { IsBytewise state }
+    ensures { IfOk result (λ r. Goes (trees.named kinds.now) (at state stack.old) rest.now r stack.new) }
+{
+    match split_byte(rest) {
+        Some((byte, after)) => match turn(alloc, kinds, stack, state, byte)? {
+            Some(next) => Ok(Some((next, after))),
+            None => Ok(None),
+        },
+        None => {
+            drop(state);
+            Ok(None)
+        }
+    }
+}
+
+// The byte at the front, where it is ASCII, and what follows it.
+fn split_byte(text: &str) -> Option<(u8, &str)>
+    ensures { MatchOption result ((b : ℕ) (z : List ℕ) → b < 128 → text.now ≢ b ∷ z) (λ r. (text.now ≡ r.0 ∷ r.1.now) × (r.0 < 128)) }
 {
     match text.as_bytes() {
-        [first, ..] => Letters::Letter.has(*first),
-        [] => false,
+        [byte, ..] if *byte < 128 => Some((*byte, &text[1..])),
+        _ => None,
     }
 }
 
-/// How many bytes at the front may stand in a word.
-#[tactic(auto, using(crate::proofs::IsQueryWord::word_boundary))]
-fn word_len(text: &str) -> usize
-    ensures boundary { IsCharBoundary text.now result }
-    ensures run { AllByRecursion IsWordByte (take result text.now) }
-    ensures ends { EndsWord (drop result text.now) }
+// The state after the rest of a literal, and what follows it.
+fn read_literal<'a>(
+    alloc: Global,
+    quote: u8,
+    side: Side,
+    rest: &'a str,
+) -> Mem<Option<(State, &'a str)>>
+    requires { class.is_quote quote ≡ true }
+    ensures { IfOk result (λ r. MatchOption r (IsFree quote rest.now) (λ r. (v : List ℕ) × (rest.now ≡ v ++ quote ∷ r.1.now) × IsFree quote v × (r.0 ≡ State.AfterOperand (Operand.Literal v) side))) }
 {
-    let bytes = text.as_bytes();
-    for (i, byte) in bytes.iter().enumerate() {
-        if !Letters::WordOrDash.has(*byte) {
-            return i;
+    let Some((value, after)) = split_quote(rest, quote) else {
+        return Ok(None);
+    };
+    let operand = Operand::Literal(Text::from_string(String::from_str(alloc, value)?));
+    Ok(Some((State::AfterOperand { operand, side }, after)))
+}
+
+// What stands before the first quote of that kind, and what follows it.
+fn split_quote(text: &str, quote: u8) -> Option<(&str, &str)>
+    requires { class.is_quote quote ≡ true }
+    ensures { MatchOption result (IsFree quote text.now) (λ r. (text.now ≡ r.0.now ++ quote ∷ r.1.now) × IsFree quote r.0.now) }
+{
+    if quote == b'\'' {
+        text.split_once('\'')
+    } else {
+        text.split_once('"')
+    }
+}
+
+// Why no query goes on where the rest begins.
+fn refusal(last: Last, text: &str, rest: &str) -> QueryError
+    requires { length rest.now ≤ length text.now }
+    ensures { IsAt result (length text.now - length rest.now) (outside.what_at last (last_byte (take (length text.now - length rest.now) text.now)) rest.now) }
+{
+    let at = text.len() - rest.len();
+    let before = text.as_bytes()[..at].last().copied();
+    match what_at(last, before, rest.as_bytes()) {
+        Some(what) => QueryError::Outside { at, what },
+        None => QueryError::Syntax { at },
+    }
+}
+
+// The steps, where the text may end at the state.
+fn whole(alloc: Global, kinds: &[Kind], state: State) -> Mem<Option<Sequence<Step<Expression>>>>
+    ensures { IfOk result (λ r. (fs : List Frame) → r ≡ machine.accept (trees.named kinds.now) (at state fs)) }
+{
+    match state {
+        State::InWord {
+            separator,
+            word,
+            spot,
+        } => {
+            let step = step_of(alloc, separator, test_of(kinds, word));
+            with_last(spot, step)
+        }
+        State::AfterStep { step, spot } => with_last(spot, step),
+        other => {
+            drop(other);
+            Ok(None)
         }
     }
-    bytes.len()
+}
+
+// The steps of the main path with one more.
+fn with_last(spot: Spot, step: Step<Expression>) -> Mem<Option<Sequence<Step<Expression>>>>
+    ensures { IfOk result (λ r. r ≡ machine.with_last spot step) }
+{
+    match spot {
+        Spot::Main { mut steps } => {
+            steps.push(step)?;
+            Ok(Some(steps))
+        }
+        Spot::Part { .. } => Ok(None),
+    }
 }

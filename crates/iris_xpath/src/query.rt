@@ -1,14 +1,14 @@
 //! Queries.
-ghost use Rattle.std.specs.Prelude.{◌≡◌, ◌≢◌, ◌≤◌, [], true, length, IfOk};
+ghost use Rattle.std.specs.Prelude.{◌≡◌, ◌≢◌, ◌≤◌, [], length, IfOk};
 ghost use Rattle.iris_base.specs.declared.limits.TheConstants.{MAX_STEPS};
-ghost use Rattle.iris_xpath.specs.ThinQuery.{is_thin};
-ghost use Rattle.iris_xpath.specs.Grammar.{IsQuery};
+ghost use Rattle.iris_xpath.specs.Told.{IsQuery};
 
 use crate::expression::{Expression, Step};
 use iris_tree::{Mem, Sequence};
 use std::marker::Model;
 
-/// A query of the thin form: one step or more, from the top of the document down.
+/// A query: one step or more, from the top of the document down. It is one that some text spells within
+/// the limits of queries.
 #[derive(Debug, Drop)]
 pub struct Query {
     steps: Sequence<Step<Expression>>,
@@ -16,7 +16,7 @@ pub struct Query {
 
 impl Model for Query {
     ghost use Rattle.iris_xpath.specs.Syntax.{Syntax};
-    ghost use Rattle.iris_xpath.specs.Grammar.{IsQuery};
+    ghost use Rattle.iris_xpath.specs.Told.{IsQuery};
     ghost use Rattle.std.specs.Coded.{codes};
     ghost use Rattle.iris_xpath.specs.contracts.expression.Expression as expression;
 
@@ -47,7 +47,6 @@ impl Query {
         ensures spelled { IsQuery self.now }
         ensures some { self.now ≢ [] }
         ensures few { length self.now ≤ MAX_STEPS }
-        ensures thin { is_thin self.now ≡ true }
     {
         self.steps.as_slice()
     }

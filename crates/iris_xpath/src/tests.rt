@@ -1,84 +1,138 @@
-//! Each call once, with answers from outside.
+//! Texts and what they are read as. Expected values come from outside.
 
-use crate::error::QueryError;
-use crate::expression::{Comparison, Expression, Operand};
+use crate::anchor::{lca, lca_name};
+use crate::error::{OutsidePart, QueryError};
 use crate::parser::parse;
+use crate::printing::print;
 use crate::query::Query;
-use iris_tree::{Kind, Text};
-use sqlite_items::Boxed;
+use crate::tally::depth;
+use iris_tree::{Kind, Text, name_text};
 use std::alloc::Global;
 use std::test::Fail;
 
-/// Whether the query has two steps, and the second one predicate with this name and value.
-fn is_read(query: &Query, name: &str, value: &str) -> bool {
-    match query.steps() {
-        [first, second] => {
-            first.predicates.is_empty()
-                && first.kind().is_some_and(|kind| kind.as_str() == "city")
-                && match second.predicates.as_slice() {
-                    [predicate] => predicate.as_equality() == Some((name, value)),
-                    _ => false,
-                }
-        }
-        _ => false,
+// Texts that are no query, where they stop being one, and what stands there.
+const REFUSED: [(&str, usize, &str); 16] = [
+    ("", 0, "syntax"),
+    ("/city/..", 6, "main path"),
+    ("/city | /city", 6, "union"),
+    ("/city[$x]", 6, "variable"),
+    ("/city[.5=a]", 7, "decimal"),
+    ("/city[a -1]", 8, "arithmetic"),
+    ("/city[a::b]", 7, "axis"),
+    ("/city[(a)=b]", 9, "truth value"),
+    ("/city[count (hood)=1]", 12, "function"),
+    ("/city[1 and a]", 8, "position"),
+    ("/city['x']", 9, "literal"),
+    ("/city[not(/a)]", 10, "absolute"),
+    ("/city[.//..]", 9, "dots"),
+    ("/city[@id/a]", 9, "attribute"),
+    ("/city[aand b]", 11, "syntax"),
+    ("/cité", 4, "syntax"),
+];
+
+// Queries, their printed forms, their depths, and the names under which all that they select lies.
+const READ: [(&str, &str, u32, &str); 8] = [
+    (" / city ", "/city", 0, ""),
+    ("//*[ a>=-  7][not (b)]", "//*[a>=-7][not(b)]", 0, ""),
+    ("/city[a='é'and b]", "/city[a='é' and b]", 0, ""),
+    (
+        "/city[(a or b) and (c and\"'\"!=d)]",
+        "/city[(a or b) and c and \"'\"!=d]",
+        0,
+        "",
+    ),
+    (
+        "/city[.//@id and or or not]",
+        "/city[.//@id and or or not]",
+        1,
+        "",
+    ),
+    ("/city[hood[../..]]", "/city[hood[../..]]", 2, ""),
+    (
+        "/city[@id='o']/hood['n'=@id]/*",
+        "/city[@id='o']/hood['n'=@id]/*",
+        0,
+        "hood-n.city-o",
+    ),
+    ("/city[@id='O!']", "/city[@id='O!']", 0, ""),
+];
+
+fn kinds() -> Result<[Kind; 2], Fail> {
+    Ok([Kind::new("city")?, Kind::new("hood")?])
+}
+
+// The offset that an error tells, and a word for it.
+fn told(error: QueryError) -> (usize, &'static str) {
+    match error {
+        QueryError::Syntax { at } => (at, "syntax"),
+        QueryError::Outside { at, what } => (at, what.word()),
+        QueryError::TooLarge { which } => (0, which.word()),
+        QueryError::Memory => (0, "memory"),
+    }
+}
+
+// Whether the text is refused there, for that reason.
+fn is_refused(alloc: Global, kinds: &[Kind], text: &str, at: usize, word: &str) -> bool {
+    match parse(alloc, text, kinds) {
+        Ok(_) => false,
+        Err(error) => told(error) == (at, word),
     }
 }
 
 #[test]
-fn reads_and_copies(rt: HostRuntime) -> Result<(), Fail> {
-    let kinds = [Kind::new("city")?, Kind::new("hood")?];
-    let query = parse(rt.alloc(), "/city/hood[@a-b_9='\"😀']", &kinds)?;
-    assert!(rt; is_read(&query, "a-b_9", "\"😀"));
-    assert!(rt; is_read(&query.copy()?, "a-b_9", "\"😀"));
-    assert!(rt; !is_read(&query, "a-b_9", ""));
+fn refuses(rt: HostRuntime) -> Result<(), Fail> {
+    let kinds = kinds()?;
+    for (text, at, word) in REFUSED {
+        assert!(rt; is_refused(rt.alloc(), &kinds, text, at, word), "at {text}");
+    }
     Ok(())
 }
 
-/// `not('text' <= -7)`
-fn expression(alloc: Global) -> Result<Expression, Fail> {
-    let less = Expression::Compare {
-        left: Operand::Literal(Text::of(alloc, "text")?),
-        comparison: Comparison::LessOrEqual,
-        right: Operand::Number(-7),
-    };
-    Ok(Expression::Not(Boxed::new(alloc, less)?))
+// A copy of the query that the text is.
+fn copied(alloc: Global, kinds: &[Kind], text: &str) -> Option<Query> {
+    parse(alloc, text, kinds).ok()?.copy().ok()
+}
+
+// The name under which all that the query selects lies.
+fn under(alloc: Global, query: &Query) -> Option<Text> {
+    let name = lca_name(alloc, query).ok()?;
+    if name.len() != lca(query) {
+        return None;
+    }
+    name_text(alloc, &name).ok()
+}
+
+// Whether the query has that printed form, that depth and that name.
+fn is_shown(alloc: Global, query: &Query, text: &str, nested: u32, name: &str) -> bool {
+    depth(query) == nested
+        && print(alloc, query).is_ok_and(|printed| printed.as_str() == text)
+        && under(alloc, query).is_some_and(|text| text.as_str() == name)
 }
 
 #[test]
-fn copies_an_expression(rt: HostRuntime) -> Result<(), Fail> {
+fn reads_copies_and_prints(rt: HostRuntime) -> Result<(), Fail> {
+    let kinds = kinds()?;
     let alloc = rt.alloc();
-    let expression = expression(alloc)?;
-    assert!(rt; expression.as_equality().is_none());
-    let written = format!(in alloc; "{expression:?}")?;
-    let copied = format!(in alloc; "{:?}", expression.copy(alloc)?)?;
-    assert_eq!(rt; copied, written);
-    Ok(())
-}
-
-#[test]
-fn refuses_other_texts(rt: HostRuntime) -> Result<(), Fail> {
-    let kinds = [Kind::new("city")?];
-    for text in [
-        "",
-        "/city/",
-        "/town",
-        "/city ",
-        "/city[@id=\"o\"]",
-        "/city[@9='o']",
-        "//city",
-    ] {
-        let refused = parse(rt.alloc(), text, &kinds).err();
-        assert!(rt; refused == Some(QueryError::Later), "at {text}");
+    for (text, printed, nested, name) in READ {
+        let read = copied(alloc, &kinds, text);
+        assert!(rt;
+            read.is_some_and(|q| is_shown(alloc, &q, printed, nested, name)),
+            "at {text}"
+        );
     }
     Ok(())
 }
 
 #[test]
 fn says_why(rt: HostRuntime) -> Result<(), Fail> {
-    let texts = format!(in rt.alloc(); "{}; {}", QueryError::Later, QueryError::Memory)?;
+    let outside = QueryError::Outside {
+        at: 5,
+        what: OutsidePart::Dots,
+    };
+    let text = format!(in rt.alloc(); "{outside}")?;
     assert_eq!(rt;
-        texts.as_str(),
-        "the text is no query of the thin form; out of memory"
+        text.as_str(),
+        "byte 5 begins a part of XPath 1.0 that queries do not have"
     );
     Ok(())
 }

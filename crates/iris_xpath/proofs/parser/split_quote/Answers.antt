@@ -1,9 +1,10 @@
 use Rattle.std.proofs.Common.{lit<}
-use Rattle.std.proofs.lemmas.Str.Pattern.{split_parts, split_after}
+use Rattle.std.proofs.lemmas.Str.Pattern.{split_parts}
+use Rattle.iris_xpath.proofs.Judging.{other_quote}
 use Rattle.iris_xpath.proofs.parser.split_quote.Goals as goal
 
-pub returns-clause-found : goal.returns-clause-found
-returns-clause-found c = split_parts 39 _ _ c.split_once.ensures.cases (lit< tt)
+pub returns-then-quote-eq39 : goal.returns-then-quote-eq39
+returns-then-quote-eq39 c = rw c.if-quote-eq39.true (split_parts 39 _ _ c.split_once.ensures.cases (lit< tt))
 
-pub returns-clause-only : goal.returns-clause-only
-returns-clause-only c v z h e = split_after 39 _ v z _ c.split_once.ensures.cases (lit< tt) e h
+pub returns-else-quote-eq39 : goal.returns-else-quote-eq39
+returns-else-quote-eq39 c = rw (other_quote _ c.requires c.if-quote-eq39.false) (split_parts 34 _ _ c.split_once-else-quote-eq39.ensures.cases (lit< tt))
