@@ -1,10 +1,14 @@
+pub mod Below
 pub mod GivesQuery
 pub mod IsQueryWord
+pub mod Names
+pub mod Order
 pub mod PlaceOrder
 pub mod ReadsAll
 pub mod ReadsMain
 pub mod ReadsOnce
 pub mod ReadsPredicate
 pub mod SelectedPlaces
+pub mod Tests
 pub mod ThinQuery
 pub mod Walk

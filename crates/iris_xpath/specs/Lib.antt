@@ -5,6 +5,7 @@ pub mod Looks
 pub mod Meaning
 pub mod PlaceOrder
 pub mod Places
+pub mod Same
 pub mod Syntax
 pub mod Thin
 pub mod ThinMeaning
