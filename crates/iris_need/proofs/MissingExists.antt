@@ -18,7 +18,7 @@ use Rattle.iris_need.specs.Program.{each, gather, where_so, and_so, subtree}
 use Rattle.iris_need.specs.Run.{Run, give, see_ids, see_full, both, next, run, after, all_of, eval, ids_in, local_in}
 use Rattle.iris_need.proofs.Documents.{Stands, AllStand, children_stand, top_stands, room_is, ids_are}
 use Rattle.iris_need.proofs.UndecidedIsRealWork.{real_work}
-use Rattle.iris_need.proofs.Run.{evals}
+use Rattle.iris_need.proofs.Run.{next_log}
 use Rattle.iris_need.specs.ThinProgram.{has_text, all_have_text, thin_tested, thin_goes, thin_from}
 use Rattle.iris_need.proofs.ThinProgram.{thin_program_is}
 
@@ -38,10 +38,6 @@ LooksAtNodes document (next r k) = LooksAtNodes document r × LooksAtNodes docum
 
 abbrev AtNode : Node → Need → Type 0
 AtNode document look = IsNode document look.name
-
--- of two programs that follow one another the looks of the first come first
-pub next_log : (document : Node) {A B : Type 0} (r : Run A) (k : A → Run B) → (run (all_of document) (next r k)).log ≡ (run (all_of document) r).log ++ (run (all_of document) (k (eval document r))).log
-next_log document r k = ap (λ o. (after (run (all_of document) r).log o (λ a. run (all_of document) (k a))).log) (evals document r)
 
 logged_nodes : (document : Node) {A : Type 0} (t : Run A) → LooksAtNodes document t → All (AtNode document) (run (all_of document) t).log
 logged_nodes document (give a) h = All-nil (AtNode document)

@@ -188,3 +188,7 @@ determined d w b t m =
     let v = decides w t m in
     let e : run (all_of d) t ≡ run w t = (grows w (all_of d) b t).same v.0 v.1 in
     (sym e, ap (λ (o : Out _). o.value) (sym e) ∙ evals d t)
+
+-- of two programs that follow one another the looks of the first come first
+pub next_log : (document : Node) {A B : Type 0} (r : Run A) (k : A → Run B) → (run (all_of document) (next r k)).log ≡ (run (all_of document) r).log ++ (run (all_of document) (k (eval document r))).log
+next_log document r k = ap (λ o. (after (run (all_of document) r).log o (λ a. run (all_of document) (k a))).log) (evals document r)

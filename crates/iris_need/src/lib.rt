@@ -5,6 +5,7 @@
 mod answer;
 mod evaluate;
 mod laws;
+mod meaning_laws;
 mod need;
 mod needs;
 mod route;
@@ -20,6 +21,10 @@ pub use laws::{
     answer_is_determined, missing_lies, needs_are_ordered, support_has_full_names,
     undecided_is_real_work,
 };
+pub use meaning_laws::{
+    answer_is_meant, full_names_are_meant, looks_are_meant, places_are_told, predicates_are_meant,
+    program_is_meant,
+};
 pub use need::{Need, Start, State};
-pub use thin_laws::{full_names_are_meant, missing_exists};
+pub use thin_laws::missing_exists;
 pub use view::View;

@@ -26,6 +26,7 @@ use Rattle.iris_xpath.proofs.Tests.{any_alike, any_fails, any_map, or_false}
 abbrev pub below : Node → List Place
 below (node l local ns) = [] ∷ element_paths local ++ all_node_places ns
 
+-- the places of a node are those below it, under its label
 pub node_form : (n : Node) → node_places n ≡ map (λ place. label (label_of n) ∷ place) (below n)
 node_form (node l local ns) = refl
 
@@ -35,14 +36,17 @@ begins test [] place = test place
 begins test (e ∷ front) [] = false
 begins test (e ∷ front) (f ∷ place) = edge_eq e f && begins test front place
 
+-- whatever the place is
 abbrev pub always : Place → Bool
 always place = true
 
+-- a place with one edge
 abbrev pub is_edge : Place → Bool
 is_edge [] = false
 is_edge (e ∷ []) = true
 is_edge (e ∷ f ∷ place) = false
 
+-- a place with an edge
 abbrev pub has_edge : Place → Bool
 has_edge [] = false
 has_edge (e ∷ place) = true
@@ -58,6 +62,7 @@ edge_alike : (t u : Place → Bool) (e : Edge) → ((place : Place) → t (e ∷
 edge_alike t u e h [] = refl
 edge_alike t u e h (p ∷ ps) = ap (λ b. b || list_any t (map (λ place. e ∷ place) ps)) (h p) ∙ ap (λ b. u (e ∷ p) || b) (edge_alike t u e h ps)
 
+-- the places of a plain element are those below it, under its position
 pub plain_form : (p : Plain) (i : ℕ) → plain_places p i ≡ map (λ place. position i ∷ place) ([] ∷ numbered 0 (map plain_places (out-Plain p).kids))
 plain_form p i = ap (λ (f : ℕ → List Place). f i) (fold_out-Plain (ℕ → List Place) plain_places_step p)
 
@@ -72,9 +77,11 @@ numbered_alike t u h (p ∷ ps) i =
     ∙ ap (λ b. list_any u (plain_places p i) || b) (numbered_alike t u h ps (i + 1))
     ∙ sym (list_any-append u (plain_places p i) later)
 
+-- tests that agree on paths of plain elements find the same among them
 pub elements_alike : (t u : Place → Bool) → ((path : Place) → IsElementPath path → t path ≡ u path) → (local : Local) → list_any t (element_paths local) ≡ list_any u (element_paths local)
 elements_alike t u h local = numbered_alike t u h local.plain 0
 
+-- a test that fails on such paths finds nothing among them
 pub elements_fail : (t : Place → Bool) → ((path : Place) → IsElementPath path → t path ≡ false) → (local : Local) → list_any t (element_paths local) ≡ false
 elements_fail t h local = elements_alike t (λ path. false) h local ∙ any_fails (λ path. false) (λ path. refl) (element_paths local)
 
@@ -89,6 +96,7 @@ nodes_alike t u h (nodes n ns) =
     ∙ ap (λ b. list_any u (node_places n) || b) (nodes_alike t u h ns)
     ∙ sym (list_any-append u (node_places n) (all_node_places ns))
 
+-- a test that fails on them finds nothing among nodes
 pub nodes_fail : (t : Place → Bool) → ((l : Label) (path : Place) → t (label l ∷ path) ≡ false) → (ns : Nodes) → list_any t (all_node_places ns) ≡ false
 nodes_fail t h ns = nodes_alike t (λ path. false) h ns ∙ any_fails (λ path. false) (λ path. refl) (all_node_places ns)
 
@@ -107,6 +115,7 @@ first_and_below t (node l local ns) =
 
 -- ---- a place at the front of another
 
+-- an edge is itself
 pub edge_itself : (e : Edge) → edge_eq e e ≡ true
 edge_itself (position i) = (bytes_eq-Decides (i ∷ []) (i ∷ [])).1 refl
 edge_itself (label l) = labels_equiv.refl l
@@ -128,6 +137,7 @@ reached_begins DoubleSlash (e ∷ above) [] = refl
 reached_begins DoubleSlash (e ∷ above) (f ∷ place) =
     above_not_same (edge_eq e f) (is_above above place) (place_eq above place) ∙ ap (λ b. edge_eq e f && b) (reached_begins DoubleSlash above place)
 
+-- what is at or below a place begins with it
 pub above_begins : (above place : Place) → is_above above place ≡ begins always above place
 above_begins [] place = refl
 above_begins (e ∷ above) [] = refl
@@ -227,6 +237,7 @@ below_labels t test n (l ∷ name) m ordered found =
 
 -- ---- nodes at their names
 
+-- a node that is found is found below the top node
 pub top_found : (document : Node) (b : Bool) (name : List Label) (n : Node) → cond b (part_at document name) None ≡ Some n → (b ≡ true) × (part_at document name ≡ Some n)
 top_found document true name n h = (refl, h)
 top_found document false name n h = absurd (cc)
@@ -251,12 +262,14 @@ below_part n (l ∷ name) m q found =
     let c = first_found (λ child. part_at child name) (child_of l (children_of n)) m found in
     ap (λ (o : Option Node). option_and_then (λ child. below_node child (place_of name ++ q)) o) c.1 ∙ below_part c.0 name m q c.2
 
+-- what stands below a node's place
 pub part_below : (document : Node) (name : List Label) (n : Node) (q : Place) → node_at document name ≡ Some n → part_at_place document (place_of name ++ q) ≡ below_node n q
 part_below document [] n q found = absurd (cc)
 part_below document (l ∷ name) n q found =
     let top = top_found document (label_eq (label_of document) l) name n found in
     ap (λ b. cond b (below_node document (place_of name ++ q)) None) top.0 ∙ below_part document name n q top.1
 
+-- a node stands at the place of its name
 pub part_node : (document : Node) (name : List Label) (n : Node) → node_at document name ≡ Some n → part_at_place document (place_of name) ≡ Some (a_node n)
 part_node document name n found = ap (part_at_place document) (sym (append-nil (place_of name))) ∙ part_below document name n [] found
 
@@ -265,6 +278,7 @@ below_element n [] h = absurd h
 below_element n (position i ∷ path) h = refl
 below_element n (label l ∷ path) h = absurd h
 
+-- a plain element of a node stands at its path below the node's place
 pub part_element : (document : Node) (name : List Label) (n : Node) (path : Place) → node_at document name ≡ Some n → IsElementPath path → part_at_place document (place_of name ++ path) ≡ element_at (local_of n) path
 part_element document name n path found h = part_below document name n path found ∙ below_element n path h
 

@@ -15,6 +15,7 @@ use Rattle.iris_tree.specs.Document.{names_of, all_names_of}
 use Rattle.iris_xpath.proofs.PlaceOrder.{equal_itself}
 use Rattle.iris_xpath.proofs.Tests.{any_map, any_and, any_fails, or_false}
 
+-- names in order, each once
 abbrev pub Rise : List (List Label) → Type 0
 Rise ns = IsStrictlySortedBy (slice_cmp label_cmp) ns
 

@@ -46,6 +46,7 @@ edges_congr (label l) (label m) (label n) h = labels_total.congr l m n h
 edges_total : IsTotalOrder edge_cmp
 edges_total = record { antisymm = edges_antisymm; trans = edges_trans; congr = edges_congr }
 
+-- places are ordered totally
 pub places_total : IsTotalOrder place_cmp
 places_total = lists_total edges_total
 
@@ -58,6 +59,7 @@ edge_exact (position i) (label m) h = absurd (cc)
 edge_exact (label l) (position j) h = absurd (cc)
 edge_exact (label l) (label m) h = ap label (label_exact l m h)
 
+-- places that compare as equal are one
 pub place_exact : (p q : Place) → place_cmp p q ≡ Equal → p ≡ q
 place_exact = slice_cmp-IsAntisymmetric edge_exact
 
@@ -172,5 +174,6 @@ module _ {X : Type 0} (c : X → X → Ordering) (total : IsTotalOrder c) (exact
       let again : HaveSame (x ∷ xs) (x ∷ ys) = subst (λ (w : X). HaveSame (x ∷ xs) (w ∷ ys)) (sym first) same in
       ap (λ (w : X). w ∷ xs) first ∙ ap (λ (zs : List X). y ∷ zs) (one_list xs ys h.1 k.1 (λ t. sym (any_rest x t xs h.0) ∙ again (λ z. is_lt (c x z) && t z) ∙ any_rest x t ys after))
 
+-- two lists of the same places in order are one
 pub one_order : (ps qs : List Place) → IsStrictlySortedBy place_cmp ps → IsStrictlySortedBy place_cmp qs → HaveSame ps qs → ps ≡ qs
 one_order = one_list place_cmp places_total place_exact

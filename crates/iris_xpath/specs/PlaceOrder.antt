@@ -14,11 +14,13 @@ edge_cmp (position i) (label m) = Less
 edge_cmp (label l) (position j) = Greater
 edge_cmp (label l) (label m) = label_cmp l m
 
+-- places edge by edge
 abbrev pub place_cmp : Place → Place → Ordering
 place_cmp = slice_cmp edge_cmp
 
 -- ---- places put in order, each once
 
+-- a place before another one, in its stead, or among those after it
 abbrev pub put_place : Ordering → Place → Place → List Place → List Place → List Place
 put_place Less place other others more = place ∷ other ∷ others
 put_place Equal place other others more = other ∷ others
@@ -29,5 +31,6 @@ abbrev pub with_place : List Place → Place → List Place
 with_place [] place = place ∷ []
 with_place (other ∷ others) place = put_place (place_cmp place other) place other others (with_place others place)
 
+-- places in order, each once
 abbrev pub in_place_order : List Place → List Place
 in_place_order places = fold with_place [] places
