@@ -1,5 +1,5 @@
 -- The attributes that a program finds from a place are those that a path of the query takes there.
-use Rattle.std.proofs.Common.{◌≡◌, ℕ, zero, suc, ◌-◌, Bool, true, false, cond, ◌&&◌, ◌||◌, List, [], ◌∷◌, ◌++◌, map, filter, refl, ap, sym, ◌∙◌, append-nil, codes, Option, Some, None, option_and_then, slice_get}
+use Rattle.std.proofs.Common.{◌≡◌, ℕ, zero, suc, ◌-◌, Bool, true, false, cond, ◌&&◌, ◌||◌, List, [], ◌∷◌, ◌++◌, map, filter, refl, ap, sym, ◌∙◌, append-nil, codes, Option, Some, None}
 use Rattle.std.specs.List.{list_any, filter_map}
 use Rattle.std.proofs.lemmas.List.Folds.{list_any-append}
 use Rattle.std.proofs.lemmas.Slice.Eq.{bytes_eq-Decides}
@@ -7,10 +7,8 @@ use Rattle.iris_base.specs.declared.name.Label.{Label}
 use Rattle.iris_base.specs.declared.limits.TheConstants.{MAX_LABELS}
 use Rattle.iris_tree.specs.Attrs.{value_of}
 use Rattle.iris_tree.specs.declared.local.Local.{Local}
-use Rattle.iris_tree.specs.declared.plain.Plain.{Plain}
-use Rattle.iris_tree.specs.declared.plain.Plain.TheViews.{out-Plain}
 use Rattle.iris_tree.specs.Universe.{Node, node, Nodes, no_nodes, nodes, label_of, local_of, node_at}
-use Rattle.iris_tree.specs.Document.{position, label, Place, place_of, Part, whole, a_node, a_plain, below_plain, part_at_place, node_places, all_node_places, places}
+use Rattle.iris_tree.specs.Document.{label, Place, place_of, Part, whole, a_node, a_plain, part_at_place, node_places, all_node_places, places}
 use Rattle.iris_xpath.specs.Places.{is_above, element_at, element_paths, IsElementPath}
 use Rattle.iris_xpath.specs.Meaning.{attribute_at, from_here}
 use Rattle.iris_xpath.specs.declared.expression.Separator.{Separator}

@@ -8,9 +8,8 @@ use Rattle.iris_tree.specs.NodeCode.{nodes_of-list_of}
 use Rattle.iris_tree.specs.declared.local.Local.{Local}
 use Rattle.iris_tree.specs.declared.plain.Plain.{Plain}
 use Rattle.iris_tree.specs.declared.plain.Plain.TheViews.{out-Plain}
-use Rattle.iris_tree.specs.declared.plain.Plain.TheFolds.{fold_out-Plain}
 use Rattle.iris_tree.specs.Universe.{Node, node, Nodes, no_nodes, nodes, nodes_of, list_of, label_of, labels_of, local_of, node_at}
-use Rattle.iris_tree.specs.Document.{position, label, Place, place_of, name_of, Part, whole, a_node, a_plain, part_at_place, numbered, plain_places, plain_places_step}
+use Rattle.iris_tree.specs.Document.{position, label, Place, place_of, name_of, Part, whole, a_node, a_plain, part_at_place, numbered, plain_places}
 use Rattle.iris_tree.specs.declared.item.Element.TheVariants as elements
 use Rattle.iris_tree.specs.declared.item.Item.{Item}
 use Rattle.iris_xpath.specs.Meaning.{is_reached, passes}

@@ -15,7 +15,7 @@ use Rattle.iris_need.specs.Needs.{looks, missing_of, from_document}
 use Rattle.iris_need.specs.Pieces.{Pieces, Agrees}
 use Rattle.iris_base.specs.Attribute.{is_id}
 use Rattle.iris_need.specs.Program.{each, gather, where_so, and_so, subtree}
-use Rattle.iris_need.specs.Run.{Run, give, see_ids, see_full, both, next, run, after, all_of, eval, ids_in, local_in}
+use Rattle.iris_need.specs.Run.{Run, give, see_ids, see_full, both, next, run, all_of, eval, ids_in, local_in}
 use Rattle.iris_need.proofs.Documents.{Stands, AllStand, children_stand, top_stands, room_is, ids_are}
 use Rattle.iris_need.proofs.UndecidedIsRealWork.{real_work}
 use Rattle.iris_need.proofs.Run.{next_log}

@@ -25,8 +25,8 @@ use Rattle.iris_tree.specs.Items.{item_at, items_at}
 use Rattle.iris_need.specs.Documents.{IsDocument}
 use Rattle.iris_need.specs.Needs.{from_document}
 use Rattle.iris_base.specs.Attribute.{is_id}
-use Rattle.iris_need.specs.Program.{gather, where_so, and_so, program}
-use Rattle.iris_need.specs.Run.{Run, eval, ids_in}
+use Rattle.iris_need.specs.Program.{gather, where_so, and_so, subtree, program}
+use Rattle.iris_need.specs.Run.{Run, eval}
 use Rattle.iris_need.proofs.Documents.{Stands, AllStand, children_stand, top_stands, room_is, ids_are, local_is, item_is}
 use Rattle.iris_need.proofs.Items.{subtree_is}
 use Rattle.iris_need.specs.ThinProgram.{has_text, all_have_text, thin_tested, thin_goes, thin_from}
