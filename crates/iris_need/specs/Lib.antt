@@ -1,5 +1,8 @@
+pub mod Alike
 pub mod Answers
 pub mod Collected
+pub mod Decided
+pub mod Descents
 pub mod Documents
 pub mod Found
 pub mod Laws
