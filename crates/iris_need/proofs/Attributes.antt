@@ -23,7 +23,7 @@ use Rattle.iris_need.specs.Spots.{place_at, IsSpot}
 use Rattle.iris_need.specs.Documents.{IsDocument, HasNoPlainId, HasIdsAtNodesAlone}
 use Rattle.iris_xpath.proofs.Below.{never_a_node, below, node_form, begins, always, elements_alike, elements_fail, above_begins, begins_twice, below_name, part_node, part_element, one_label_more}
 use Rattle.iris_need.proofs.Steps.{children_any, below_element}
-use Rattle.iris_xpath.proofs.Tests.{any_alike, any_map, any_filter, any_filter_map, or_false, or_assoc}
+use Rattle.iris_xpath.proofs.Passes.{any_alike, any_map, any_filter, any_filter_map, or_false, or_assoc}
 
 -- a document in which nodes alone have ids
 pub record IsCity (document : Node) : Type 0 where

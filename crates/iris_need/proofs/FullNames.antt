@@ -32,7 +32,7 @@ use Rattle.iris_xpath.proofs.Below.{plain_part, kid_part, first_found}
 use Rattle.iris_need.proofs.Looked.{looks_meant}
 use Rattle.iris_xpath.proofs.Names.{names_rise, names_are}
 use Rattle.iris_xpath.proofs.Order.{one_list}
-use Rattle.iris_xpath.proofs.Tests.{any_alike, any_map, any_filter, any_swap, or_false, or_assoc, or_comm}
+use Rattle.iris_xpath.proofs.Passes.{any_alike, any_map, any_filter, any_swap, or_false, or_assoc, or_comm}
 use Rattle.iris_need.proofs.Attributes.{IsCity}
 
 -- ---- looks at nodes alone

@@ -30,7 +30,7 @@ use Rattle.iris_need.proofs.Attributes.{IsCity, all_places, child_places}
 use Rattle.iris_xpath.proofs.Below.{below, node_form, has_edge, elements_fail, first_and_below}
 use Rattle.iris_need.proofs.Looking.{looking, log_looking, gather_looking, where_looking, children_looking, LooksWhere, look_node, look_element, stays, from_node_place, from_element_place, from_top_place, reach_looking}
 use Rattle.iris_need.proofs.Predicates.{parents_any, holds_is, all_hold_is}
-use Rattle.iris_xpath.proofs.Tests.{any_fails, any_map, or_false}
+use Rattle.iris_xpath.proofs.Passes.{any_fails, any_map, or_false}
 
 -- ---- a place alone
 

@@ -26,7 +26,7 @@ use Rattle.iris_xpath.specs.Looks.{Extent, Looks, is_look, look_at, is_sought, l
 use Rattle.iris_need.specs.Spots.{place_at, IsSpot}
 use Rattle.iris_xpath.proofs.Below.{never_a_node, below, node_form, begins, is_edge, has_edge, goes_down, elements_alike, elements_fail, first_and_below, reached_begins, begins_twice, below_name, part_node, part_element, one_label_more}
 use Rattle.iris_need.proofs.Steps.{passing, stepping, below_element, label_passes, no_deeper, one_more, as_begins, no_document, none_of_kind}
-use Rattle.iris_xpath.proofs.Tests.{any_alike, any_fails, any_map, any_filter, any_or, or_false, or_comm, and_assoc, and_never}
+use Rattle.iris_xpath.proofs.Passes.{any_alike, any_fails, any_map, any_filter, any_or, or_false, or_comm, and_assoc, and_never}
 
 -- ---- looks of a program
 

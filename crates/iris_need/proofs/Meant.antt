@@ -19,7 +19,7 @@ use Rattle.iris_xpath.specs.Same.{HaveSame, some_passes}
 use Rattle.iris_need.proofs.Items.{program_items}
 use Rattle.iris_xpath.proofs.Order.{order_rises, order_same, one_order}
 use Rattle.iris_need.proofs.Paths.{reached_same}
-use Rattle.iris_xpath.proofs.Tests.{any_filter_map}
+use Rattle.iris_xpath.proofs.Passes.{any_filter_map}
 use Rattle.iris_need.proofs.Attributes.{IsCity}
 
 -- the places that the program reaches, put in place order, are the selected ones

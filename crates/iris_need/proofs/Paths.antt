@@ -14,7 +14,7 @@ use Rattle.iris_xpath.specs.Same.{HaveSame}
 use Rattle.iris_need.specs.Spots.{place_at, IsSpot}
 use Rattle.iris_need.proofs.Predicates.{all_hold_is}
 use Rattle.iris_need.proofs.Steps.{where_any, Finds, stepping, reach_any}
-use Rattle.iris_xpath.proofs.Tests.{any_alike, any_filter, any_swap, or_false}
+use Rattle.iris_xpath.proofs.Passes.{any_alike, any_filter, any_swap, or_false}
 use Rattle.iris_need.proofs.Attributes.{IsCity}
 
 -- whether steps lead from a place to a wanted one

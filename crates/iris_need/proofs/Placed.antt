@@ -24,7 +24,7 @@ use Rattle.iris_need.specs.Spots.{place_at}
 use Rattle.iris_need.proofs.Items.{Gives, then_gives, found_is, program_items}
 use Rattle.iris_xpath.proofs.Order.{order_rises, order_same, one_order}
 use Rattle.iris_need.proofs.Paths.{reached_same}
-use Rattle.iris_xpath.proofs.Tests.{any_alike, any_map, any_filter, any_filter_map}
+use Rattle.iris_xpath.proofs.Passes.{any_alike, any_map, any_filter, any_filter_map}
 use Rattle.iris_need.proofs.Attributes.{IsCity}
 
 -- ---- what it gives

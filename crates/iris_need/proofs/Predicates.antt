@@ -19,7 +19,7 @@ use Rattle.iris_need.specs.Spots.{place_at, IsSpot, IsNodeAt}
 use Rattle.iris_xpath.proofs.Below.{first_found, top_found, part_node, part_element}
 use Rattle.iris_need.proofs.Steps.{gather_any, where_any, reach_any}
 use Rattle.iris_need.proofs.Attributes.{IsCity, attributes_any}
-use Rattle.iris_xpath.proofs.Tests.{any_alike, any_map, any_filter, any_filter_map, any_flat, and_assoc, some_is_any}
+use Rattle.iris_xpath.proofs.Passes.{any_alike, any_map, any_filter, any_filter_map, any_flat, and_assoc, some_is_any}
 
 -- ---- the place right above
 

@@ -23,7 +23,7 @@ use Rattle.iris_need.specs.Run.{Run, give, eval, ids_in, local_in}
 use Rattle.iris_need.proofs.Documents.{Stands, AllStand, children_stand, top_stands, room_is, ids_are, local_is, standing}
 use Rattle.iris_need.specs.Spots.{place_at, IsSpot}
 use Rattle.iris_xpath.proofs.Below.{below, node_form, begins, is_edge, has_edge, goes_down, elements_alike, elements_fail, nodes_fail, first_and_below, reached_begins, begins_twice, below_name, part_node, part_element, one_label_more}
-use Rattle.iris_xpath.proofs.Tests.{any_alike, any_fails, any_map, any_filter, or_false, or_comm, and_assoc, and_never}
+use Rattle.iris_xpath.proofs.Passes.{any_alike, any_fails, any_map, any_filter, or_false, or_comm, and_assoc, and_never}
 
 -- ---- words of programs
 

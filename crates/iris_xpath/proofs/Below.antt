@@ -18,7 +18,7 @@ use Rattle.iris_xpath.specs.Places.{edge_eq, place_eq, is_above, IsElementPath, 
 use Rattle.iris_xpath.specs.Meaning.{is_reached}
 use Rattle.iris_xpath.specs.declared.expression.Separator.{Separator}
 use Rattle.iris_xpath.specs.declared.expression.Separator.TheVariants.{Slash, DoubleSlash}
-use Rattle.iris_xpath.proofs.Tests.{any_alike, any_fails, any_map, or_false}
+use Rattle.iris_xpath.proofs.Passes.{any_alike, any_fails, any_map, or_false}
 
 -- ---- places below a node
 

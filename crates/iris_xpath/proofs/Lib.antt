@@ -3,12 +3,12 @@ pub mod GivesQuery
 pub mod IsQueryWord
 pub mod Names
 pub mod Order
+pub mod Passes
 pub mod PlaceOrder
 pub mod ReadsAll
 pub mod ReadsMain
 pub mod ReadsOnce
 pub mod ReadsPredicate
 pub mod SelectedPlaces
-pub mod Tests
 pub mod ThinQuery
 pub mod Walk

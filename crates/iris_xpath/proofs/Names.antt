@@ -13,7 +13,7 @@ use Rattle.iris_base.proofs.Labels.{label_eq-Decides}
 use Rattle.iris_tree.specs.Universe.{Node, node, Nodes, no_nodes, nodes, list_of, label_of, child_of, part_at, node_at, AllAfter, IsOrdered, AreOrdered}
 use Rattle.iris_tree.specs.Document.{names_of, all_names_of}
 use Rattle.iris_xpath.proofs.PlaceOrder.{equal_itself}
-use Rattle.iris_xpath.proofs.Tests.{any_map, any_and, any_fails, or_false}
+use Rattle.iris_xpath.proofs.Passes.{any_map, any_and, any_fails, or_false}
 
 -- names in order, each once
 abbrev pub Rise : List (List Label) → Type 0

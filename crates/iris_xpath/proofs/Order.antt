@@ -16,7 +16,7 @@ use Rattle.iris_tree.specs.Document.{Edge, position, label, Place}
 use Rattle.iris_xpath.specs.PlaceOrder.{edge_cmp, place_cmp, put_place, with_place, in_place_order}
 use Rattle.iris_xpath.specs.Same.{HaveSame}
 use Rattle.iris_xpath.proofs.PlaceOrder.{equal_itself}
-use Rattle.iris_xpath.proofs.Tests.{or_false, or_assoc, or_comm}
+use Rattle.iris_xpath.proofs.Passes.{or_false, or_assoc, or_comm}
 
 -- ---- the order of places
 

@@ -14,7 +14,7 @@ use Rattle.iris_xpath.specs.ThinQuery.{thin_of}
 use Rattle.iris_xpath.specs.Places.{edge_eq, is_parent, is_above}
 use Rattle.iris_xpath.specs.ThinMeaning.{fits, step_to, steps_to, selected, tested_with_a_look, is_looked_into, full_names}
 use Rattle.iris_xpath.proofs.Below.{begins, always, is_edge, edge_itself, above_begins}
-use Rattle.iris_xpath.proofs.Tests.{any_alike, and_assoc}
+use Rattle.iris_xpath.proofs.Passes.{any_alike, and_assoc}
 
 -- ---- Bool
 
