@@ -57,7 +57,8 @@ both_ways m n more back one two = by back two none
 
 -- ---- what a view from a start meets
 
-seen_under : (above : List Label) (w : View) (look : Need) → meets (seen_from above w) look ≡ true → (is_under look.name above ≡ true) × (meets w look ≡ true)
+-- what is met from a start is met, and at or under its name
+pub seen_under : (above : List Label) (w : View) (look : Need) → meets (seen_from above w) look ≡ true → (is_under look.name above ≡ true) × (meets w look ≡ true)
 seen_under above w look h = by (is_under look.name above) refl h
   where
     none : (l : Level) → meets_known l None ≡ true → ⊥
@@ -69,7 +70,8 @@ seen_under above w look h = by (is_under look.name above) refl h
 
 -- ---- what a view takes of another one
 
-level_named : (l : Level) (piece : Piece) → (at_level l piece).name ≡ piece.name
+-- a piece keeps its name at each level
+pub level_named : (l : Level) (piece : Piece) → (at_level l piece).name ≡ piece.name
 level_named level.Ids piece = refl
 level_named level.Full piece = refl
 
@@ -100,7 +102,7 @@ pieces_there over (need ∷ needs) name l named (inr h) met = let rest = pieces_
     more (Some first) piece there = contains_later first (pieces_for over needs) piece there
 
 -- what the evaluation met is in the view then
-decided_meets : (query : Syntax) (start : Start) (view over : Pieces) (look : Need) → AreNamed over → Contains (looks query start (view_of over)) look → meets (seen_from start.name (view_of over)) look ≡ true
+pub decided_meets : (query : Syntax) (start : Start) (view over : Pieces) (look : Need) → AreNamed over → Contains (looks query start (view_of over)) look → meets (seen_from start.name (view_of over)) look ≡ true
     → meets (view_of (decided query start over view)) look ≡ true
 decided_meets query start view over look named there met =
     let inside = pieces_there over (support_of query start over) look.name look.level named (bare_covers (filter (meets (seen_from start.name (view_of over))) (looks query start (view_of over))) look (filtered (meets (seen_from start.name (view_of over))) look met (looks query start (view_of over)) there)) (seen_under start.name (view_of over) look met).1 in

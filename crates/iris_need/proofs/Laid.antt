@@ -21,7 +21,8 @@ use Rattle.iris_need.proofs.Pieces.{names_cmp}
 
 -- ---- look-ups after one piece more
 
-same_name : (m n : List Label) → is_at (names_cmp m) n ≡ true → m ≡ n
+-- names that are found at one another are one
+pub same_name : (m n : List Label) → is_at (names_cmp m) n ≡ true → m ≡ n
 same_name m n h = name_exact m n (equal_from_is_eq _ h)
 
 put_first : {X : Type 0} (o : Ordering) (k : List Label) (v : X) (e : List Label × X) (es more : List (List Label × X)) (q : List Label) → names_cmp k e.0 ≡ o

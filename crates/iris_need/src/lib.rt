@@ -22,7 +22,8 @@ pub use laws::{
     undecided_is_real_work,
 };
 pub use look_laws::{
-    looks_are_covered, looks_decide, looks_descend, missing_descends, missing_exists, views_grow,
+    looks_are_covered, looks_decide, looks_descend, missing_descends, missing_exists,
+    views_are_enough, views_grow,
 };
 pub use meaning_laws::{
     answer_is_meant, full_names_are_meant, looks_are_meant, places_are_told, predicates_are_meant,

@@ -10,7 +10,7 @@ ghost use Rattle.iris_xpath.specs.Syntax.{Syntax};
 ghost use Rattle.iris_need.specs.declared.need.Need.{Need};
 ghost use Rattle.iris_need.specs.declared.need.Start.{Start};
 ghost use Rattle.iris_need.specs.Alike.{AreAlike, Reaches, IsCoveredBy};
-ghost use Rattle.iris_need.specs.Decided.{IsAtLevel, decided};
+ghost use Rattle.iris_need.specs.Decided.{IsAtLevel, decided, full_part_at, IsPartOfView};
 ghost use Rattle.iris_need.specs.Descents.{IsAtStart, IsBelowMet, HasAbove, IsStartIn};
 ghost use Rattle.iris_need.specs.Laws.{look_at_start};
 ghost use Rattle.iris_need.specs.Needs.{seen_from, evaluation, looks, is_missing, missing_in, support_in, missing_of, support_of};
@@ -109,4 +109,29 @@ pub fn views_grow()
     ensures came { (view : Pieces) (pieces : List Piece) (name : List Label)
         → IsSome (piece_at (laid_over pieces view) name)
         → IsSome (piece_at view name) ⊎ ((piece : Piece) × Contains pieces piece × (piece.name ≡ name)) }
+{}
+
+/// A view that took what an evaluation over another one rests on tells the same as that one, of which it is
+/// part: the evaluation, what is missing, what it rests on, and the version and the stamp of each node that it
+/// rests on in full. This call does nothing.
+pub fn views_are_enough()
+    ensures part { (view : Pieces) (pieces : List Piece) → IsPartOfView view (laid_over pieces view) }
+    ensures evaluation { (query : Syntax) (start : Start) (view over : Pieces)
+        → AreNamed over
+        → IsPartOfView view over
+        → evaluation query start (view_of (decided query start over view)) ≡ evaluation query start (view_of over) }
+    ensures missing { (query : Syntax) (start : Start) (view over : Pieces)
+        → AreNamed over
+        → IsPartOfView view over
+        → missing_of query start (decided query start over view) ≡ missing_of query start over }
+    ensures support { (query : Syntax) (start : Start) (view over : Pieces)
+        → AreNamed over
+        → IsPartOfView view over
+        → support_of query start (decided query start over view) ≡ support_of query start over }
+    ensures full { (query : Syntax) (start : Start) (view over : Pieces) (need : Need)
+        → AreNamed over
+        → IsPartOfView view over
+        → Contains (support_of query start over) need
+        → need.level ≡ Full
+        → full_part_at (decided query start over view) need.name ≡ full_part_at over need.name }
 {}
