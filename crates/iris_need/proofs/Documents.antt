@@ -1,5 +1,5 @@
 -- Where the nodes of a document stand: by their names, with the levels that their names leave below them.
-use Rattle.std.proofs.Common.{◌≡◌, ℕ, zero, suc, ◌+◌, ◌-◌, ◌≤◌, Bool, true, false, cond, List, [], ◌∷◌, ◌++◌, length, map, refl, ap, ◌∙◌, arith, Option, Some, None, option_and_then}
+use Rattle.std.proofs.Common.{◌≡◌, ℕ, zero, suc, ◌+◌, ◌-◌, ◌≤◌, Bool, true, false, cond, List, [], ◌∷◌, ◌++◌, length, map, refl, ap, sym, ◌∙◌, subst, append-nil, append_assoc, arith, Option, Some, None, option_and_then}
 use Rattle.std.specs.List.{AllByRecursion}
 use Rattle.std.specs.Option.{option_map_or}
 use Rattle.std.proofs.lemmas.List.{length-append}
@@ -7,11 +7,13 @@ use Rattle.std.proofs.lemmas.List.Elements.{recursion_from_All}
 use Rattle.iris_base.specs.declared.name.Label.{Label}
 use Rattle.iris_base.specs.declared.limits.TheConstants.{MAX_LABELS}
 use Rattle.iris_base.specs.NameOrder.{label_eq, labels_equiv}
+use Rattle.iris_base.proofs.Labels.{label_eq-Decides}
 use Rattle.iris_tree.specs.declared.local.Local.{Local}
-use Rattle.iris_tree.specs.Universe.{Node, node, Nodes, no_nodes, nodes, label_of, local_of, children_of, ids_of, child_of, part_at, node_at, IsOrdered, AreOrdered}
-use Rattle.iris_tree.specs.Document.{Part, a_node, place_of, name_of, part_at_place, below_node, names_of, all_names_of}
+use Rattle.iris_tree.specs.Universe.{Node, node, Nodes, no_nodes, nodes, list_of, label_of, local_of, children_of, ids_of, child_of, part_at, node_at, IsOrdered, AreOrdered}
+use Rattle.iris_tree.specs.Document.{place_of, name_of, names_of, all_names_of}
 use Rattle.iris_tree.specs.declared.item.Element.TheVariants as elements
 use Rattle.iris_fragment.proofs.Cities.{node_last}
+use Rattle.iris_xpath.proofs.Below.{first_found, top_found, part_node}
 use Rattle.iris_xpath.proofs.Walk.{Finds, finds_all}
 use Rattle.iris_tree.specs.Items.{item_of, item_at}
 use Rattle.iris_need.specs.Documents.{IsDocument}
@@ -99,6 +101,40 @@ top_at n = ap (λ b. cond b (Some n) None) (labels_equiv.refl (label_of n))
 pub top_stands : (document : Node) → IsDocument document → Stands document (label_of document ∷ []) document (MAX_LABELS - 1)
 top_stands document h = record { there = top_at document; ordered = h.0; bounded = shallow document (MAX_LABELS - 1) (recursion_from_All (λ name. length name ≤ MAX_LABELS) (names_of document) h.1); levels_left = refl }
 
+this_stands : (document : Node) (name : List Label) (n : Node) (levels : ℕ) (l : Label) (c : Node) (b : Bool) → label_eq (label_of n) l ≡ b → Stands document (name ++ label_of n ∷ []) n levels → (o : Option Node) → cond b (Some n) o ≡ Some c
+    → (o ≡ Some c → (left : ℕ) × Stands document (name ++ l ∷ []) c left) → (left : ℕ) × Stands document (name ++ l ∷ []) c left
+this_stands document name n levels l c true e h o found later =
+    let it : n ≡ c = cc in
+    (levels, subst (λ (m : Node). Stands document (name ++ l ∷ []) m levels) it (subst (λ (m : Label). Stands document (name ++ m ∷ []) n levels) ((label_eq-Decides (label_of n) l).0 e) h))
+this_stands document name n levels l c false e h o found later = later found
+
+child_stands : (document : Node) (name : List Label) (ns : Nodes) (levels : ℕ) (l : Label) (c : Node) → AllStand document name ns levels → child_of l (list_of ns) ≡ Some c → (left : ℕ) × Stands document (name ++ l ∷ []) c left
+child_stands document name no_nodes levels l c h found = absurd (cc)
+child_stands document name (nodes n ns) zero l c h found = absurd h
+child_stands document name (nodes n ns) (suc levels) l c h found =
+    this_stands document name n levels l c (label_eq (label_of n) l) refl h.0 (child_of l (list_of ns)) found (λ f. child_stands document name ns (suc levels) l c h.1 f)
+
+stands_below : (document : Node) (above : List Label) (n : Node) (levels : ℕ) (l : Label) (c : Node) → Stands document above n levels → child_of l (children_of n) ≡ Some c → (left : ℕ) × Stands document (above ++ l ∷ []) c left
+stands_below document above (node m local ns) levels l c h found = child_stands document above ns levels l c (children_stand document above m local ns levels h) found
+
+stands_at : (document : Node) (above : List Label) (n : Node) (levels : ℕ) (name : List Label) (m : Node) → Stands document above n levels → part_at n name ≡ Some m → (left : ℕ) × Stands document (above ++ name) m left
+stands_at document above n levels [] m h found =
+    let it : n ≡ m = cc in
+    (levels, subst (λ (x : List Label). Stands document x m levels) (sym (append-nil above)) (subst (λ (k : Node). Stands document above k levels) it h))
+stands_at document above n levels (l ∷ name) m h found =
+    let c = first_found (λ child. part_at child name) (child_of l (children_of n)) m found in
+    let s = stands_below document above n levels l c.0 h c.1 in
+    let r = stands_at document (above ++ l ∷ []) c.0 s.0 name m s.1 c.2 in
+    (r.0, subst (λ (x : List Label). Stands document x m r.0) (append_assoc above (l ∷ []) name) r.1)
+
+-- a node at a name stands there with the levels that the name leaves
+pub standing : (document : Node) (name : List Label) (n : Node) → IsDocument document → node_at document name ≡ Some n → (levels : ℕ) × Stands document name n levels
+standing document [] n h found = absurd (cc)
+standing document (l ∷ name) n h found =
+    let top = top_found document (label_eq (label_of document) l) name n found in
+    let same : label_of document ≡ l = (label_eq-Decides (label_of document) l).0 top.0 in
+    stands_at document (l ∷ []) document (MAX_LABELS - 1) name n (subst (λ (m : Label). Stands document (m ∷ []) document (MAX_LABELS - 1)) same (top_stands document h)) top.1
+
 -- ---- what is seen of a node
 
 -- the room below a node is the number of levels that it leaves
@@ -116,28 +152,12 @@ local_is document name n h = ap (λ (o : Option Node). option_map_or local_of o 
 
 -- ---- the item of a node
 
-found_then : {A B C : Type 0} (f : A → Option B) (g : A → Option C) (h : C → Option B) (o : Option A) → ((a : A) → f a ≡ option_and_then h (g a)) → option_and_then f o ≡ option_and_then h (option_and_then g o)
-found_then f g h None same = refl
-found_then f g h (Some a) same = same a
-
-below_is : (name : List Label) (n : Node) → below_node n (place_of name) ≡ option_and_then (λ m. Some (a_node m)) (part_at n name)
-below_is [] n = refl
-below_is (l ∷ name) n = found_then (λ child. below_node child (place_of name)) (λ child. part_at child name) (λ m. Some (a_node m)) (child_of l (children_of n)) (below_is name)
-
-top_part : (b : Bool) (o : Option Part) (p : Option Node) → o ≡ option_and_then (λ m. Some (a_node m)) p → cond b o None ≡ option_and_then (λ m. Some (a_node m)) (cond b p None)
-top_part true o p h = h
-top_part false o p h = refl
-
-part_is : (document : Node) (name : List Label) (n : Node) → node_at document name ≡ Some n → part_at_place document (place_of name) ≡ Some (a_node n)
-part_is document [] n h = absurd (cc)
-part_is document (l ∷ name) n h =
-    top_part (label_eq (label_of document) l) (below_node document (place_of name)) (part_at document name) (below_is name document) ∙ ap (option_and_then (λ m. Some (a_node m))) h
-
-name_is : (name : List Label) → name_of (place_of name) ≡ name
+-- the name of the place of a node
+pub name_is : (name : List Label) → name_of (place_of name) ≡ name
 name_is [] = refl
 name_is (l ∷ name) = ap (λ ls. l ∷ ls) (name_is name)
 
 -- the item at the place of a node
 pub item_is : (document : Node) (name : List Label) (n : Node) → node_at document name ≡ Some n → item_at document (place_of name) ≡ Some (record { at = name; is = elements.Node n })
 item_is document name n h =
-    ap (option_and_then (item_of (name_of (place_of name)))) (part_is document name n h) ∙ ap (λ (at : List Label). Some (record { at = at; is = elements.Node n })) (name_is name)
+    ap (option_and_then (item_of (name_of (place_of name)))) (part_node document name n h) ∙ ap (λ (at : List Label). Some (record { at = at; is = elements.Node n })) (name_is name)

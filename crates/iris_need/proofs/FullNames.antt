@@ -1,229 +1,273 @@
--- Over all of a document a thin query looks with level Full at the nodes that it looks into.
-use Rattle.std.proofs.Common.{◌≡◌, ◌≢◌, ℕ, zero, suc, ◌+◌, Bool, true, false, cond, not, ◌&&◌, ◌||◌, List, [], ◌∷◌, ◌++◌, map, refl, ap, sym, ◌∙◌, subst, append_assoc, append-nil, Some}
-use Rattle.std.specs.List.{list_any, list_all}
-use Rattle.std.specs.Str.{bytes_eq}
-use Rattle.std.proofs.Math.Bool.{or-false, or-true}
-use Rattle.std.proofs.lemmas.List.{map-append}
-use Rattle.std.proofs.lemmas.List.Folds.{list_any-append}
+-- The names that a query's evaluation looks into, over all of a document, are those that the query means.
+use Rattle.std.proofs.Common.{◌≡◌, Bool, true, false, cond, ◌&&◌, ◌||◌, List, [], ◌∷◌, map, filter, fold, refl, ap, sym, ◌∙◌, Option, Some, None, is_some, option_and_then, slice_get}
+use Rattle.std.specs.List.{AllByRecursion, list_any}
+use Rattle.std.specs.List.Sorted.{IsStrictlySortedBy}
+use Rattle.std.specs.Cmp.Lexicographic.{slice_cmp, pointwise}
+use Rattle.std.specs.declared.cmp.Ordering.{Ordering}
+use Rattle.std.specs.declared.cmp.Ordering.TheVariants.{Less, Equal, Greater}
+use Rattle.std.proofs.lemmas.List.Kept.{IsStrictlySortedBy-filter}
 use Rattle.iris_base.specs.declared.name.Label.{Label}
-use Rattle.iris_tree.specs.Universe.{Node, node, Nodes, no_nodes, nodes, nodes_of, list_of, label_of, labels_of, node_at, AreOrdered}
-use Rattle.iris_tree.specs.Document.{a_node, names_of, all_names_of}
+use Rattle.iris_base.specs.NameOrder.{label_eq, label_cmp, names_total}
+use Rattle.iris_tree.specs.Universe.{Node, label_of, local_of, children_of, child_of, part_at, node_at}
+use Rattle.iris_tree.specs.Document.{position, label, Place, name_of, Part, whole, a_node, a_plain, below_node, part_at_place, names_of, places}
+use Rattle.iris_fragment.proofs.Names.{name_exact, alike_exact}
+use Rattle.iris_xpath.specs.Meaning.{is_reached, passes, parents_of}
+use Rattle.iris_xpath.specs.Meaning as meaning
+use Rattle.iris_xpath.specs.Syntax.{Syntax, Condition, any_of, all_of, not_so, selects, compares, Conditions, no_conditions, conditions, Side, values_of, literal, number, Steps, here, attribute, itself, parent, step, MainStep, main_of}
+use Rattle.iris_xpath.specs.declared.expression.NameTest.{NameTest}
+use Rattle.iris_xpath.specs.declared.expression.Separator.{Separator}
+use Rattle.iris_xpath.specs.declared.expression.Separator.TheVariants.{Slash, DoubleSlash}
+use Rattle.iris_need.proofs.Merged.{merged_ordered}
+use Rattle.iris_need.specs.declared.need.Need.{Need}
+use Rattle.iris_need.specs.Laws.{need_cmp}
+use Rattle.iris_need.specs.Needs.{greater, put_look, with_look, merged, without_states, is_full, is_full_level, full_part, from_document, extent_of_level}
+use Rattle.iris_need.specs.Needs as needs
+use Rattle.iris_base.specs.Attribute.{is_id}
+use Rattle.iris_need.specs.Run as runs
 use Rattle.iris_fragment.specs.declared.piece.Level.{Level}
 use Rattle.iris_fragment.specs.declared.piece.Level.TheVariants.{Ids, Full}
-use Rattle.iris_tree.specs.declared.item.Element.TheVariants as elements
-use Rattle.iris_xpath.specs.Syntax.{Syntax}
-use Rattle.iris_xpath.specs.Thin.{Equals, Main}
-use Rattle.iris_xpath.specs.ThinMeaning.{holds, is_of_kind, looks_into}
-use Rattle.iris_xpath.specs.ThinMeaning as thin
-use Rattle.iris_xpath.specs.ThinQuery.{is_thin, thin_step, thin_of}
-use Rattle.iris_xpath.specs.Walk.{names_from, looked_at, all_looked_at}
-use Rattle.iris_xpath.proofs.Walk.{under_names, looked_is}
-use Rattle.iris_need.specs.declared.need.Need.{Need}
-use Rattle.iris_need.specs.declared.need.State.{State}
-use Rattle.iris_need.specs.declared.need.State.TheVariants as states
-use Rattle.iris_need.specs.Documents.{IsDocument}
-use Rattle.iris_need.specs.Needs.{is_full_level, is_full, full_names}
-use Rattle.iris_base.specs.Attribute.{is_id}
-use Rattle.iris_need.specs.Program.{each, gather, where_so, and_so, room, subtree}
-use Rattle.iris_need.specs.Run.{Run, give, run, all_of, eval, ids_in, local_in}
-use Rattle.iris_need.proofs.FullPart.{full_of, AllNamed, named_append, Block, Blocks, no_blocks, no_block, more_blocks, own_block}
-use Rattle.iris_need.proofs.MissingExists.{next_log}
-use Rattle.iris_need.proofs.Documents.{Stands, AllStand, children_stand, top_stands, room_is, ids_are}
-use Rattle.iris_need.proofs.Selected.{text_is, texts_are}
-use Rattle.iris_need.specs.ThinProgram.{has_text, all_have_text, thin_tested, thin_goes, thin_from}
-use Rattle.iris_need.proofs.ThinProgram.{thin_program_is}
+use Rattle.iris_xpath.specs.Looks as extents
+use Rattle.iris_xpath.specs.Looks.{Extent, Looks, is_look, look_at, is_sought, looks_from, extent_of, step_looks, attribute_looks, ends_look, side_looks, condition_looks, each_look, all_look, whole_looks, path_looks, query_looks, is_full_at, full_names}
+use Rattle.iris_xpath.proofs.Below.{plain_part, kid_part, first_found}
+use Rattle.iris_need.proofs.Looked.{looks_meant}
+use Rattle.iris_xpath.proofs.Names.{names_rise, names_are}
+use Rattle.iris_xpath.proofs.Order.{one_list}
+use Rattle.iris_xpath.proofs.Passes.{any_alike, any_map, any_filter, any_swap, or_false, or_assoc, or_comm}
+use Rattle.iris_need.proofs.Attributes.{IsCity}
 
--- what a program looks at over all of a document
-abbrev log : Node → {A : Type 0} → Run A → List Need
-log document t = (run (all_of document) t).log
+-- ---- looks at nodes alone
 
--- the name itself, where it is full
-abbrev own : Bool → List Label → List (List Label)
-own full name = cond full (name ∷ []) []
+-- the same looks at all places
+abbrev SameLooks : Node → Looks → Looks → Type 0
+SameLooks document u v = (extent : Extent) (place : Place) → look_at document u extent place ≡ look_at document v extent place
 
--- ---- the tests of a step look at the node under test
+module _ (document : Node) (u v : Looks) (same : SameLooks document u v) where
+  from_same : (s : Separator) (extent : Extent) (above : Place) → looks_from document u s extent above ≡ looks_from document v s extent above
+  from_same s extent above = any_alike _ _ (λ place. ap (λ b. is_sought s above place && b) (same extent place)) (places document)
 
-text_named : (document : Node) (by_id : Bool) (marks : List State) (e : Equals) (name : List Label) (l : Label) → AllNamed (λ other. name ≡ other) (log document (has_text by_id marks e name l))
-text_named document true marks e name l = tt
-text_named document false marks e name l = (refl, tt)
+  step_same : (s : Separator) (test : NameTest) (above : Place) (f g : Place → Bool) → ((place : Place) → f place ≡ g place) → step_looks document u s test above f ≡ step_looks document v s test above g
+  step_same s test above f g h =
+      ap (λ b. b || list_any (λ place. (is_reached s above place && passes (part_at_place document place) test) && f place) (places document)) (from_same s (extent_of test) above)
+      ∙ ap (λ b. looks_from document v s (extent_of test) above || b) (any_alike _ _ (λ place. ap (λ b. (is_reached s above place && passes (part_at_place document place) test) && b) (h place)) (places document))
 
-and_named : (document : Node) (P : List Label → Type 0) (b : Bool) (r : Run Bool) → AllNamed P (log document r) → AllNamed P (log document (and_so b r))
-and_named document P true r h = h
-and_named document P false r h = tt
+  attribute_same : (s : Separator) (by_id : Bool) (place : Place) → attribute_looks document u s by_id place ≡ attribute_looks document v s by_id place
+  attribute_same Slash true place = refl
+  attribute_same Slash false place = from_same Slash extents.full place
+  attribute_same DoubleSlash true place = from_same DoubleSlash extents.ids place
+  attribute_same DoubleSlash false place = from_same DoubleSlash extents.full place
 
-texts_named : (document : Node) (marks : List State) (es : List Equals) (name : List Label) (l : Label) → AllNamed (λ other. name ≡ other) (log document (all_have_text marks es name l))
-texts_named document marks [] name l = tt
-texts_named document marks (e ∷ es) name l =
-    let r = has_text (is_id e.name) marks e name l in
-    let further = all_have_text marks es name l in
-    subst (AllNamed (λ other. name ≡ other)) (sym (next_log document r (λ b. and_so b further)))
-    (named_append (λ other. name ≡ other) (log document r) (log document (and_so (eval document r) further)) (text_named document (is_id e.name) marks e name l)
-    (and_named document (λ other. name ≡ other) (eval document r) further (texts_named document marks es name l)))
+  mutual
+    ends_alike : (steps : Steps) (place : Place) → ends_look document u steps place ≡ ends_look document v steps place
+    ends_alike here place = refl
+    ends_alike (attribute s attr) place = attribute_same s (is_id attr) place
+    ends_alike (itself steps) place = ends_alike steps place
+    ends_alike (parent steps) place = any_alike _ _ (λ above. ends_alike steps above) (parents_of place)
+    ends_alike (step s test cs steps) place =
+        step_same s test place (λ at. all_look document u cs at || (meaning.all_hold document cs at && ends_look document u steps at)) (λ at. all_look document v cs at || (meaning.all_hold document cs at && ends_look document v steps at))
+        (λ at. ap (λ b. b || (meaning.all_hold document cs at && ends_look document u steps at)) (all_alike cs at) ∙ ap (λ b. all_look document v cs at || (meaning.all_hold document cs at && b)) (ends_alike steps at))
 
-text_full : (document : Node) (by_id : Bool) (marks : List State) (e : Equals) (name : List Label) (l : Label) → list_any is_full (log document (has_text by_id marks e name l)) ≡ not by_id
-text_full document true marks e name l = refl
-text_full document false marks e name l = refl
+    side_alike : (side : Side) (place : Place) → side_looks document u side place ≡ side_looks document v side place
+    side_alike (values_of steps) place = ends_alike steps place
+    side_alike (literal text) place = refl
+    side_alike (number n) place = refl
 
-and_full : (document : Node) (b : Bool) (r : Run Bool) → list_any is_full (log document (and_so b r)) ≡ (b && list_any is_full (log document r))
-and_full document true r = refl
-and_full document false r = refl
+    condition_alike : (c : Condition) (place : Place) → condition_looks document u c place ≡ condition_looks document v c place
+    condition_alike (any_of cs) place = each_alike cs place
+    condition_alike (all_of cs) place = each_alike cs place
+    condition_alike (not_so c) place = condition_alike c place
+    condition_alike (selects steps) place = ends_alike steps place
+    condition_alike (compares left comparison right) place = ap (λ b. b || side_looks document u right place) (side_alike left place) ∙ ap (λ b. side_looks document v left place || b) (side_alike right place)
 
--- they do where one that is evaluated is on another attribute than `@id`
-texts_full : (document : Node) (marks : List State) (es : List Equals) (n : Node) (name : List Label) → node_at document name ≡ Some n → list_any is_full (log document (all_have_text marks es name (label_of n))) ≡ looks_into (a_node n) es
-texts_full document marks [] n name h = refl
-texts_full document marks (e ∷ es) n name h =
-    let r = has_text (is_id e.name) marks e name (label_of n) in
-    let further = all_have_text marks es name (label_of n) in
-    let later = log document (and_so (eval document r) further) in
-    ap (list_any is_full) (next_log document r (λ b. and_so b further)) ∙ list_any-append is_full (log document r) later
-    ∙ ap (λ b. b || list_any is_full later) (text_full document (is_id e.name) marks e name (label_of n))
-    ∙ ap (λ b. not (is_id e.name) || b) (and_full document (eval document r) further ∙ ap (λ b. b && list_any is_full (log document further)) (text_is document marks e n name h)
-    ∙ ap (λ b. holds (a_node n) e && b) (texts_full document marks es n name h))
+    each_alike : (cs : Conditions) (place : Place) → each_look document u cs place ≡ each_look document v cs place
+    each_alike no_conditions place = refl
+    each_alike (conditions c cs) place = ap (λ b. b || each_look document u cs place) (condition_alike c place) ∙ ap (λ b. condition_looks document v c place || b) (each_alike cs place)
 
--- ---- a look at a node, after others at it
+    all_alike : (cs : Conditions) (place : Place) → all_look document u cs place ≡ all_look document v cs place
+    all_alike no_conditions place = refl
+    all_alike (conditions c cs) place =
+        ap (λ b. b || (meaning.holds document c place && all_look document u cs place)) (condition_alike c place) ∙ ap (λ b. condition_looks document v c place || (meaning.holds document c place && b)) (all_alike cs place)
 
-look_block : (name : List Label) (ns : Nodes) (first : List Need) (level : Level) (marks : List State) (looks : List Need) (full : List (List Label)) → AllNamed (λ other. name ≡ other) first → Blocks name ns looks full
-    → Block name (first ++ record { name = name; level = level; states = marks } ∷ looks) (own (list_any is_full first || is_full_level level) name ++ full)
-look_block name ns first level marks looks full h k =
-    let look : Need = record { name = name; level = level; states = marks } in
-    let any : list_any is_full (first ++ look ∷ []) ≡ (list_any is_full first || is_full_level level) =
-    list_any-append is_full first (look ∷ []) ∙ ap (λ b. list_any is_full first || b) (or-false (is_full_level level)) in
-    subst (λ (b : Bool). Block name (first ++ look ∷ looks) (own b name ++ full)) any
-    (subst (λ (ls : List Need). Block name ls (own (list_any is_full (first ++ look ∷ [])) name ++ full)) (append_assoc first (look ∷ []) looks)
-    (own_block name ns (first ++ look ∷ []) looks full (named_append (λ other. name ≡ other) first (look ∷ []) h (refl, tt)) k))
+  whole_alike : (place : Place) → whole_looks document u place ≡ whole_looks document v place
+  whole_alike [] = refl
+  whole_alike (e ∷ place) = from_same DoubleSlash extents.full (e ∷ place)
 
-full_block : (name : List Label) (ns : Nodes) (first : List Need) (marks : List State) (looks : List Need) (full : List (List Label)) → AllNamed (λ other. name ≡ other) first → Blocks name ns looks full
-    → Block name (first ++ record { name = name; level = Full; states = marks } ∷ looks) (name ∷ full)
-full_block name ns first marks looks full h k =
-    subst (λ (b : Bool). Block name (first ++ record { name = name; level = Full; states = marks } ∷ looks) (own b name ++ full)) (or-true (list_any is_full first)) (look_block name ns first Full marks looks full h k)
+  path_alike : (ss : List MainStep) (place : Place) → path_looks document u ss place ≡ path_looks document v ss place
+  path_alike [] place = whole_alike place
+  path_alike (s ∷ ss) place =
+      step_same s.separator s.test place (λ at. all_look document u s.conditions at || (meaning.all_hold document s.conditions at && path_looks document u ss at)) (λ at. all_look document v s.conditions at || (meaning.all_hold document s.conditions at && path_looks document v ss at))
+      (λ at. ap (λ b. b || (meaning.all_hold document s.conditions at && path_looks document u ss at)) (all_alike s.conditions at) ∙ ap (λ b. all_look document v s.conditions at || (meaning.all_hold document s.conditions at && b)) (path_alike ss at))
 
-ids_block : (name : List Label) (ns : Nodes) (first : List Need) (marks : List State) (looks : List Need) (full : List (List Label)) → AllNamed (λ other. name ≡ other) first → Blocks name ns looks full
-    → Block name (first ++ record { name = name; level = Ids; states = marks } ∷ looks) (own (list_any is_full first) name ++ full)
-ids_block name ns first marks looks full h k =
-    subst (λ (b : Bool). Block name (first ++ record { name = name; level = Ids; states = marks } ∷ looks) (own b name ++ full)) (or-false (list_any is_full first)) (look_block name ns first Ids marks looks full h k)
+part_below_node : (n : Node) (place : Place) (m : Node) → below_node n place ≡ Some (a_node m) → is_some (part_at n (name_of place)) ≡ true
+part_below_node n [] m e = refl
+part_below_node n (position i ∷ path) m e = absurd (kid_part path (slice_get (local_of n).plain i) m (λ p h. plain_part p path m h) e)
+part_below_node n (label l ∷ place) m e =
+    let c = first_found (λ child. below_node child place) (child_of l (children_of n)) (a_node m) e in
+    ap (λ (o : Option Node). is_some (option_and_then (λ child. part_at child (name_of place)) o)) c.1 ∙ part_below_node c.0 place m c.2
 
--- ---- a selected node is looked into, with all below it
+top_part : (document : Node) (place : Place) (m : Node) (b : Bool) → cond b (below_node document place) None ≡ Some (a_node m) → is_some (cond b (part_at document (name_of place)) None) ≡ true
+top_part document place m true e = part_below_node document place m e
+top_part document place m false e = absurd (cc)
 
-names_child : (name : List Label) (n : Node) → names_from (name ++ label_of n ∷ []) n ≡ map (λ m. name ++ m) (names_of n)
-names_child name (node l local below) = ap (λ (ms : List (List Label)). (name ++ l ∷ []) ∷ ms) (under_names name l (all_names_of below))
+-- a node stands at the name of its place
+stands_there : (document : Node) (place : Place) (m : Node) → part_at_place document place ≡ Some (a_node m) → is_some (node_at document (name_of place)) ≡ true
+stands_there document [] m e = absurd (cc)
+stands_there document (position i ∷ place) m e = absurd (cc)
+stands_there document (label l ∷ place) m e = top_part document place m (label_eq (label_of document) l) e
 
-each_blocks : (document : Node) (name : List Label) (levels : ℕ) → ((c : Node) (at : List Label) → Stands document at c levels → Block at (log document (subtree levels (label_of c) at)) (names_from at c)) → (ns : Nodes) → AreOrdered ns → AllStand document name ns (suc levels)
-    → Blocks name ns (log document (each (λ child. subtree levels child (name ++ child ∷ [])) (labels_of (list_of ns)))) (map (λ m. name ++ m) (all_names_of ns))
-each_blocks document name levels whole no_nodes ordered h = no_blocks name no_nodes
-each_blocks document name levels whole (nodes c cs) ordered h =
-    let at = name ++ label_of c ∷ [] in
-    let looks = log document (each (λ child. subtree levels child (name ++ child ∷ [])) (labels_of (list_of (nodes c cs)))) in
-    subst (Blocks name (nodes c cs) looks) (ap (λ (ms : List (List Label)). ms ++ map (λ m. name ++ m) (all_names_of cs)) (names_child name c) ∙ sym (map-append (λ m. name ++ m) (names_of c) (all_names_of cs)))
-    (more_blocks name c cs _ _ (names_from at c) (map (λ m. name ++ m) (all_names_of cs)) ordered.1 (whole c at h.0) (each_blocks document name levels whole cs ordered.2 h.1))
+-- looks at names of nodes alone
+abbrev at_nodes : Node → Looks → Looks
+at_nodes document looks name extent = is_some (node_at document name) && looks name extent
 
-subtree_block : (document : Node) (levels : ℕ) (n : Node) (name : List Label) → Stands document name n levels → (first : List Need) → AllNamed (λ other. name ≡ other) first
-    → Block name (first ++ log document (subtree levels (label_of n) name)) (names_from name n)
-subtree_block document zero (node l local no_nodes) name h first named = full_block name no_nodes first (states.Whole ∷ []) [] [] named (no_blocks name no_nodes)
-subtree_block document zero (node l local (nodes c cs)) name h first named = absurd (children_stand document name l local (nodes c cs) zero h)
-subtree_block document (suc levels) (node l local below) name h first named =
-    let further = λ (child : Label). subtree levels child (name ++ child ∷ []) in
-    let looks = log document (each further (labels_of (list_of below))) in
-    let look : Need = record { name = name; level = Full; states = states.Whole ∷ [] } in
-    let logged = ap (λ (ids : List Label). log document (each further ids)) (sym (ids_are document name (node l local below) h.there)) ∙ sym (append-nil (log document (each further (ids_in document name))))
-    ∙ sym (next_log document (each further (ids_in document name)) (λ ns. give (node l (local_in document name) (nodes_of ns)))) in
-    subst (λ (ls : List Need). Block name (first ++ look ∷ ls) (names_from name (node l local below))) logged
-    (full_block name below first (states.Whole ∷ []) looks (map (λ m. name ++ m) (all_names_of below)) named
-    (each_blocks document name levels (λ c at s. subtree_block document levels c at s [] tt) below h.ordered (children_stand document name l local below (suc levels) h)))
+look_at_node : (document : Node) (looks : Looks) (extent : Extent) (name : List Label) (o : Option Part) → ((m : Node) → o ≡ Some (a_node m) → is_some (node_at document name) ≡ true) → is_look looks extent name o ≡ is_look (at_nodes document looks) extent name o
+look_at_node document looks extent name None h = refl
+look_at_node document looks extent name (Some whole) h = refl
+look_at_node document looks extent name (Some (a_node n)) h = ap (λ b. b && looks name extent) (sym (h n refl))
+look_at_node document looks extent name (Some (a_plain p)) h = refl
 
--- ---- the test of a step, and what comes after it
+-- a query looks at nodes of the document alone
+pub only_nodes : (document : Node) (query : Syntax) (looks : Looks) → query_looks document looks query ≡ query_looks document (at_nodes document looks) query
+only_nodes document query looks =
+    path_alike document looks (at_nodes document looks) (λ extent place. look_at_node document looks extent (name_of place) (part_at_place document place) (stands_there document place)) (map main_of query) []
 
-so_block : {A : Type 0} (document : Node) (b : Bool) (name : List Label) (tests : List Need) (r : Run (List A)) (full : List (List Label)) → AllNamed (λ other. name ≡ other) tests → Block name (tests ++ log document r) full
-    → Block name (tests ++ log document (where_so b r)) (cond b full (own (list_any is_full tests) name))
-so_block document true name tests r full named h = h
-so_block document false name tests r full named h = subst (Block name (tests ++ [])) (append-nil _) (own_block name no_nodes tests [] [] named (no_blocks name no_nodes))
+-- each look of an evaluation is at a node of the document
+pub looks_at_nodes : (document : Node) (query : Syntax) (looks : Looks) → IsCity document
+    → list_any (λ (need : Need). looks need.name (extent_of_level need.level)) (needs.looks query (from_document (label_of document)) (runs.all_of document))
+    ≡ list_any (λ (need : Need). is_some (node_at document need.name) && looks need.name (extent_of_level need.level)) (needs.looks query (from_document (label_of document)) (runs.all_of document))
+looks_at_nodes document query looks city = looks_meant document query looks city ∙ only_nodes document query looks ∙ sym (looks_meant document query (at_nodes document looks) city)
 
-tested_block : {A : Type 0} (document : Node) (kind : Bool) (i : ℕ) (m : Main) (n : Node) (name : List Label) (r : Run (List A)) (full : List (List Label)) → node_at document name ≡ Some n
-    → Block name (log document (all_have_text (states.Test i ∷ []) m.predicates name (label_of n)) ++ log document r) full
-    → Block name (log document (where_so kind (thin_tested i m name (label_of n) r))) (cond kind (cond (list_all (holds (a_node n)) m.predicates) full (own (looks_into (a_node n) m.predicates) name)) [])
-tested_block document false i m n name r full h k = no_block name
-tested_block document true i m n name r full h k =
-    let marks : List State = states.Test i ∷ [] in
-    let tests = all_have_text marks m.predicates name (label_of n) in
-    let all = list_all (holds (a_node n)) m.predicates in
-    subst (λ (b : Bool). Block name (log document (thin_tested i m name (label_of n) r)) (cond all full (own b name))) (texts_full document marks m.predicates n name h)
-    (subst (λ (ls : List Need). Block name ls (cond all full (own (list_any is_full (log document tests)) name)))
-    (ap (λ (b : Bool). log document tests ++ log document (where_so b r)) (sym (texts_are document marks m.predicates n name h)) ∙ sym (next_log document tests (λ b. where_so b r)))
-    (so_block document all name (log document tests) r full (texts_named document marks m.predicates name (label_of n)) k))
+-- ---- merged looks
 
--- ---- the walk
+full_of_both : (l m : Level) → is_full_level (greater l m) ≡ (is_full_level l || is_full_level m)
+full_of_both Full m = refl
+full_of_both Ids m = refl
 
--- from a node on, which was looked into before or was not, the names of the nodes that steps look into
-abbrev looked_on : List Label → Node → List Main → Bool → List (List Label)
-looked_on name n [] before = names_from name n
-looked_on name (node l local below) (m ∷ ms) before = own before name ++ all_looked_at name below m ms
+both_full : (a b t r : Bool) → (((a || b) && t) || r) ≡ (((a && t) || r) || (b && t))
+both_full true true true r = refl
+both_full true true false true = refl
+both_full true true false false = refl
+both_full true false true r = refl
+both_full true false false true = refl
+both_full true false false false = refl
+both_full false true true true = refl
+both_full false true true false = refl
+both_full false true false true = refl
+both_full false true false false = refl
+both_full false false t true = refl
+both_full false false t false = refl
 
-last_by : {X : Type 0} (k b t : Bool) (all one : List X) → cond (k && b) all (cond (k && t) one []) ≡ cond k (cond b all (cond t one [])) []
-last_by true true t all one = refl
-last_by true false t all one = refl
-last_by false b t all one = refl
+-- whether a need is of level Full and its name passes
+abbrev full_passes : (List Label → Bool) → Need → Bool
+full_passes t need = is_full need && t need.name
 
-further_by : {X : Type 0} (k b t : Bool) (more one : List X) → cond (k && t) one [] ++ cond (k && b) more [] ≡ cond k (cond b (cond t one [] ++ more) (cond t one [])) []
-further_by true true t more one = refl
-further_by true false t more one = append-nil (cond t one [])
-further_by false b t more one = refl
+put_full : (t : List Label → Bool) (o : Ordering) (look need : Need) (more later : List Need) → slice_cmp label_cmp look.name need.name ≡ o → list_any (full_passes t) later ≡ (list_any (full_passes t) more || full_passes t look)
+    → list_any (full_passes t) (put_look o look need more later) ≡ (list_any (full_passes t) (need ∷ more) || full_passes t look)
+put_full t Less look need more later e h = or_comm (full_passes t look) (list_any (full_passes t) (need ∷ more))
+put_full t Equal look need more later e h =
+    ap (λ b. (b && t need.name) || list_any (full_passes t) more) (full_of_both need.level look.level)
+    ∙ both_full (is_full need) (is_full look) (t need.name) (list_any (full_passes t) more)
+    ∙ ap (λ (name : List Label). list_any (full_passes t) (need ∷ more) || (is_full look && t name)) (sym (name_exact look.name need.name e))
+put_full t Greater look need more later e h = ap (λ b. full_passes t need || b) h ∙ sym (or_assoc (full_passes t need) (list_any (full_passes t) more) (full_passes t look))
 
-looked_at_is : (above : List Label) (n : Node) (m : Main) (ms : List Main)
-    → cond (is_of_kind (a_node n) m.kind) (cond (list_all (holds (a_node n)) m.predicates) (looked_on (above ++ label_of n ∷ []) n ms (looks_into (a_node n) m.predicates)) (own (looks_into (a_node n) m.predicates) (above ++ label_of n ∷ []))) []
-    ≡ looked_at above n m ms
-looked_at_is above (node l local below) m [] =
-    let n = node l local below in
-    let name = above ++ l ∷ [] in
-    sym (last_by (is_of_kind (a_node n) m.kind) (list_all (holds (a_node n)) m.predicates) (looks_into (a_node n) m.predicates) (names_from name n) (name ∷ []))
-looked_at_is above (node l local below) m (t ∷ ts) =
-    let n = node l local below in
-    let name = above ++ l ∷ [] in
-    sym (further_by (is_of_kind (a_node n) m.kind) (list_all (holds (a_node n)) m.predicates) (looks_into (a_node n) m.predicates) (all_looked_at name below t ts) (name ∷ []))
+with_full : (t : List Label → Bool) (more : List Need) (look : Need) → list_any (full_passes t) (with_look more look) ≡ (list_any (full_passes t) more || full_passes t look)
+with_full t [] look = or_false (full_passes t look)
+with_full t (need ∷ more) look = put_full t (slice_cmp label_cmp look.name need.name) look need more (with_look more look) refl (with_full t more look)
 
--- what the walk from a node does after looks at it
-abbrev GoesOn : Node → ℕ → List Main → Type 0
-GoesOn document i ms = (n : Node) (name : List Label) (levels : ℕ) → Stands document name n levels → (first : List Need) → AllNamed (λ other. name ≡ other) first
-    → Block name (first ++ log document (thin_goes i ms name (label_of n))) (looked_on name n ms (list_any is_full first))
+fold_full : (t : List Label → Bool) (looks more : List Need) → list_any (full_passes t) (fold with_look more looks) ≡ (list_any (full_passes t) more || list_any (full_passes t) looks)
+fold_full t [] more = sym (or_false (list_any (full_passes t) more))
+fold_full t (look ∷ looks) more =
+    fold_full t looks (with_look more look) ∙ ap (λ b. b || list_any (full_passes t) looks) (with_full t more look) ∙ or_assoc (list_any (full_passes t) more) (full_passes t look) (list_any (full_passes t) looks)
 
-child_block : (document : Node) (i j : ℕ) (m : Main) (ms : List Main) (above : List Label) (n : Node) (levels : ℕ) → GoesOn document i ms → Stands document (above ++ label_of n ∷ []) n levels
-    → Block (above ++ label_of n ∷ []) (log document (where_so (bytes_eq (label_of n).kind m.kind) (thin_tested j m (above ++ label_of n ∷ []) (label_of n) (thin_goes i ms (above ++ label_of n ∷ []) (label_of n))))) (looked_at above n m ms)
-child_block document i j m ms above n levels further h =
-    let name = above ++ label_of n ∷ [] in
-    let marks : List State = states.Test j ∷ [] in
-    let tests = log document (all_have_text marks m.predicates name (label_of n)) in
-    let after = subst (λ (b : Bool). Block name (tests ++ log document (thin_goes i ms name (label_of n))) (looked_on name n ms b)) (texts_full document marks m.predicates n name h.there)
-    (further n name levels h tests (texts_named document marks m.predicates name (label_of n))) in
-    subst (Block name (log document (where_so (bytes_eq (label_of n).kind m.kind) (thin_tested j m name (label_of n) (thin_goes i ms name (label_of n)))))) (looked_at_is above n m ms)
-    (tested_block document (bytes_eq (label_of n).kind m.kind) j m n name (thin_goes i ms name (label_of n)) (looked_on name n ms (looks_into (a_node n) m.predicates)) h.there after)
+-- the names of level Full among merged looks are those among the looks
+merged_full : (t : List Label → Bool) (looks : List Need) → list_any t (full_part (merged (map without_states looks))) ≡ list_any (full_passes t) looks
+merged_full t looks =
+    any_map t (λ (need : Need). need.name) (filter is_full (merged (map without_states looks)))
+    ∙ any_filter (λ (need : Need). t need.name) is_full (merged (map without_states looks))
+    ∙ fold_full t (map without_states looks) []
+    ∙ any_map (full_passes t) without_states looks
 
-all_blocks : (document : Node) (i j levels : ℕ) (m : Main) (ms : List Main) (name : List Label) → GoesOn document i ms → (ns : Nodes) → AreOrdered ns → AllStand document name ns levels
-    → Blocks name ns (log document (gather (λ child. where_so (bytes_eq child.kind m.kind) (thin_tested j m (name ++ child ∷ []) child (thin_goes i ms (name ++ child ∷ []) child))) (labels_of (list_of ns)))) (all_looked_at name ns m ms)
-all_blocks document i j levels m ms name further no_nodes ordered h = no_blocks name no_nodes
-all_blocks document i j zero m ms name further (nodes c cs) ordered h = absurd h
-all_blocks document i j (suc levels) m ms name further (nodes c cs) ordered h =
-    more_blocks name c cs _ _ (looked_at name c m ms) (all_looked_at name cs m ms) ordered.1 (child_block document i j m ms name c levels further h.0) (all_blocks document i j (suc levels) m ms name further cs ordered.2 h.1)
+-- ---- in order
 
-goes_on : (document : Node) (i : ℕ) (ms : List Main) → GoesOn document i ms
-goes_on document i [] n name levels h first named =
-    let tree = subtree (room name) (label_of n) name in
-    let logged = ap (λ (k : ℕ). log document (subtree k (label_of n) name)) (sym (room_is document name n levels h)) ∙ sym (append-nil (log document tree))
-    ∙ sym (next_log document tree (λ x. give (record { at = name; is = elements.Node x } ∷ []))) in
-    subst (λ (ls : List Need). Block name (first ++ ls) (names_from name n)) logged (subtree_block document levels n name h first named)
-goes_on document i (m ∷ ms) (node l local below) name levels h first named =
-    let further = λ (child : Label). where_so (bytes_eq child.kind m.kind) (thin_tested i m (name ++ child ∷ []) child (thin_goes (i + 1) ms (name ++ child ∷ []) child)) in
-    let look : Need = record { name = name; level = Ids; states = states.At i ∷ [] } in
-    subst (λ (ids : List Label). Block name (first ++ look ∷ log document (gather further ids)) (looked_on name (node l local below) (m ∷ ms) (list_any is_full first))) (sym (ids_are document name (node l local below) h.there))
-    (ids_block name below first (states.At i ∷ []) (log document (gather further (labels_of (list_of below)))) (all_looked_at name below m ms) named
-    (all_blocks document (i + 1) i levels m ms name (goes_on document (i + 1) ms) below h.ordered (children_stand document name l local below levels h)))
+names_after : (need : Need) (more : List Need) → AllByRecursion (λ later. need_cmp need later ≡ Less) more → AllByRecursion (λ name. slice_cmp label_cmp need.name name ≡ Less) (map (λ n. n.name) more)
+names_after need [] h = tt
+names_after need (n ∷ more) h = (h.0, names_after need more h.1)
 
--- ---- the whole query
+names_of_needs : (more : List Need) → IsStrictlySortedBy need_cmp more → IsStrictlySortedBy (slice_cmp label_cmp) (map (λ n. n.name) more)
+unfolding IsStrictlySortedBy
+names_of_needs [] h = tt
+names_of_needs (need ∷ more) h = (names_after need more h.0, names_of_needs more h.1)
 
-from_full : (query : Syntax) (document : Node) (m : Main) (ms : List Main) → thin_of query ≡ m ∷ ms → IsDocument document → full_of (log document (thin_from (label_of document) 0 (m ∷ ms))) ≡ thin.full_names document query
-from_full query document m ms is h = (child_block document 1 0 m ms [] document 15 (goes_on document 1 ms) (top_stands document h)).full_at ∙ looked_is document h.0 query m ms is
+full_part_rises : (looks : List Need) → IsStrictlySortedBy (slice_cmp label_cmp) (full_part (merged looks))
+full_part_rises looks = names_of_needs (filter is_full (merged looks)) (IsStrictlySortedBy-filter need_cmp is_full (merged looks) (merged_ordered looks))
 
-program_full : (query : Syntax) (document : Node) → is_thin query ≡ true → full_names query document ≡ full_of (log document (thin_from (label_of document) 0 (thin_of query)))
-program_full query document h = ap (λ o. full_of o.log) ((thin_program_is query (label_of document) h).runs (all_of document))
+-- ---- the names
 
--- what an evaluation looks at with level Full is what the meaning of a thin query says is looked into
-pub full_names_meant : (query : Syntax) (document : Node) → is_thin query ≡ true → query ≢ [] → IsDocument document → full_names query document ≡ thin.full_names document query
-full_names_meant [] document h some is = absurd (some refl)
-full_names_meant (s ∷ query) document h some is = program_full (s ∷ query) document h ∙ from_full (s ∷ query) document (thin_step s) (thin_of query) refl is
+one_name : (t : List Label → Bool) (other name : List Label) (b : Bool) → pointwise label_eq other name ≡ b → (b && t other) ≡ (b && t name)
+one_name t other name true e = ap t (alike_exact other name e)
+one_name t other name false e = refl
+
+any_and_right : {A : Type 0} (t : A → Bool) (b : Bool) (xs : List A) → list_any (λ x. t x && b) xs ≡ (list_any t xs && b)
+any_and_right t true [] = refl
+any_and_right t false [] = refl
+any_and_right t b (x ∷ xs) = ap (λ c. (t x && b) || c) (any_and_right t b xs) ∙ right (t x) (list_any t xs) b
+  where
+    right : (a c d : Bool) → ((a && d) || (c && d)) ≡ ((a || c) && d)
+    right true true true = refl
+    right true true false = refl
+    right true false true = refl
+    right true false false = refl
+    right false c d = refl
+
+-- the one name of the document that is a given one
+at_that_name : (document : Node) (t : List Label → Bool) (name : List Label) → IsCity document → list_any (λ other. pointwise label_eq other name && t other) (names_of document) ≡ (is_some (node_at document name) && t name)
+at_that_name document t name city =
+    any_alike _ _ (λ other. one_name t other name (pointwise label_eq other name) refl) (names_of document)
+    ∙ any_and_right (λ other. pointwise label_eq other name) (t name) (names_of document)
+    ∙ ap (λ b. b && t name) (names_are document name city.in_order.0)
+
+full_extent : (l : Level) → is_full_level l ≡ extents.is_full (extent_of_level l)
+full_extent Ids = refl
+full_extent Full = refl
+
+looked_full : (document : Node) (query : Syntax) (t : List Label → Bool) → IsCity document → list_any t (needs.full_names query document) ≡ query_looks document (λ name extent. extents.is_full extent && t name) query
+looked_full document query t city =
+    merged_full t (needs.looks query (from_document (label_of document)) (runs.all_of document))
+    ∙ any_alike (full_passes t) (λ need. extents.is_full (extent_of_level need.level) && t need.name) (λ need. ap (λ b. b && t need.name) (full_extent need.level)) (needs.looks query (from_document (label_of document)) (runs.all_of document))
+    ∙ looks_meant document query (λ name extent. extents.is_full extent && t name) city
+
+and_exchange : (a b c : Bool) → (a && (b && c)) ≡ (b && (a && c))
+and_exchange true true c = refl
+and_exchange true false c = refl
+and_exchange false true c = refl
+and_exchange false false c = refl
+
+-- they are names of nodes
+looked_nodes : (document : Node) (query : Syntax) (t : List Label → Bool) → IsCity document → list_any (λ name. is_some (node_at document name) && t name) (needs.full_names query document) ≡ list_any t (needs.full_names query document)
+looked_nodes document query t city =
+    looked_full document query (λ name. is_some (node_at document name) && t name) city
+    ∙ path_alike document (λ name extent. extents.is_full extent && (is_some (node_at document name) && t name)) (at_nodes document (λ name extent. extents.is_full extent && t name))
+    (λ extent place. look_same (λ name lv. and_exchange (extents.is_full lv) (is_some (node_at document name)) (t name)) extent (name_of place) (part_at_place document place)) (map main_of query) []
+    ∙ sym (only_nodes document query (λ name extent. extents.is_full extent && t name))
+    ∙ sym (looked_full document query t city)
+  where
+    look_same : {f g : Looks} → ((name : List Label) (extent : Extent) → f name extent ≡ g name extent) → (extent : Extent) (name : List Label) (o : Option Part) → is_look f extent name o ≡ is_look g extent name o
+    look_same h extent name None = refl
+    look_same h extent name (Some whole) = refl
+    look_same h extent name (Some (a_node n)) = h name extent
+    look_same h extent name (Some (a_plain p)) = refl
+
+full_same : (document : Node) (query : Syntax) (t : List Label → Bool) → IsCity document → list_any t (needs.full_names query document) ≡ list_any t (full_names document query)
+full_same document query t city =
+    let full = needs.full_names query document in
+    sym (looked_nodes document query t city)
+    ∙ any_alike _ _ (λ name. sym (at_that_name document t name city)) full
+    ∙ any_swap (λ name other. pointwise label_eq other name && t other) full (names_of document)
+    ∙ any_alike _ _ (λ other. any_and_right (λ name. pointwise label_eq other name) (t other) full ∙ ap (λ b. b && t other) (looked_full document query (λ name. pointwise label_eq other name) city)) (names_of document)
+    ∙ sym (any_filter t (λ name. query_looks document (is_full_at name) query) (names_of document))
+
+-- the names looked at with level Full, over all of a document
+pub full_names_meant : (document : Node) (query : Syntax) → IsCity document → needs.full_names query document ≡ full_names document query
+full_names_meant document query city =
+    one_list (slice_cmp label_cmp) names_total name_exact (needs.full_names query document) (full_names document query)
+    (full_part_rises (map without_states (needs.looks query (from_document (label_of document)) (runs.all_of document))))
+    (IsStrictlySortedBy-filter (slice_cmp label_cmp) (λ name. query_looks document (is_full_at name) query) (names_of document) (names_rise document city.in_order.0))
+    (λ t. full_same document query t city)

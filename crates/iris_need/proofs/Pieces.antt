@@ -1,5 +1,5 @@
 -- Entries of a map whose keys ascend: what the map's calls make of them.
-use Rattle.std.proofs.Common.{◌≡◌, Bool, true, false, List, [], ◌∷◌, ◌++◌, fold, Option, Some, None, refl, sym, ap, subst, ◌∙◌}
+use Rattle.std.proofs.Common.{◌≡◌, Bool, true, false, List, [], ◌∷◌, ◌++◌, fold, Contains, Option, Some, None, refl, sym, ap, subst, ◌∙◌}
 use Rattle.std.specs.declared.cmp.Ordering.{Ordering}
 use Rattle.std.specs.declared.cmp.Ordering.TheVariants.{Less, Equal, Greater}
 use Rattle.std.specs.Ordering.{ordering_reverse}
@@ -11,6 +11,7 @@ use Rattle.std.specs.Map.{lookup, keys_of, set_value}
 use Rattle.std.specs.BTreeMap.{is_at, insert_entry}
 use Rattle.std.proofs.lemmas.Map.{lookup-none}
 use Rattle.std.proofs.lemmas.Map.Entries.{none_below_head}
+use Rattle.std.proofs.lemmas.Map.Views.{Contains-from_lookup}
 use Rattle.std.proofs.lemmas.List.Elements.{All-from_recursion, recursion_from_All}
 use Rattle.iris_base.specs.declared.name.Label.{Label}
 use Rattle.iris_base.specs.NameOrder.{label_cmp, names_total}
@@ -94,6 +95,14 @@ found_name : (es : Pieces) (name : List Label) (v : Piece) → AllByRecursion Is
 found_name [] name v h f = absurd (cc)
 found_name (e ∷ es) name v h f = name_here e es name v h.0 f (found_name es name v h.1) (is_at (names_cmp name) e.0) refl
 
+-- the piece at a name has that name
+pub piece_named : (es : Pieces) (name : List Label) (v : Piece) → AreNamed es → piece_at es name ≡ Some v → v.name ≡ name
+piece_named es name v h f = found_name es name v (recursion_from_All IsNamed es h) f
+
+-- a piece that is found is there
+pub found_there : (es : Pieces) (name : List Label) (v : Piece) → piece_at es name ≡ Some v → Contains es (name, v)
+found_there es name v f = Contains-from_lookup {eq = λ q. is_at (names_cmp q)} (λ x y same. name_exact x y (equal_from_is_eq _ same)) name v es f
+
 -- a piece at a name that has one
 pub with_piece_found : (es new : Pieces) (piece old : Piece) → IsStrictlySortedBy names_cmp (keys_of es) → piece_at es piece.name ≡ Some old
     → new ≡ set_value (is_at (names_cmp piece.name)) es (joined_pieces (Some old) piece) → new ≡ with_piece es piece
@@ -112,7 +121,7 @@ joined_name (Some v) piece h = sym (h v refl)
 -- with one piece more each still stands under its name
 pub with_piece_named : (es : Pieces) (piece : Piece) → AreNamed es → AreNamed (with_piece es piece)
 with_piece_named es piece h =
-    named_insert es piece.name (joined_pieces (piece_at es piece.name) piece) h (joined_name (piece_at es piece.name) piece (λ v f. found_name es piece.name v (recursion_from_All IsNamed es h) f))
+    named_insert es piece.name (joined_pieces (piece_at es piece.name) piece) h (joined_name (piece_at es piece.name) piece (λ v f. piece_named es piece.name v h f))
 
 first_piece : (e : List Label × Piece) (es : Pieces) → IsNamed e → AllByRecursion IsNamed es → AllByRecursion (λ k. names_cmp e.0 k ≡ Less) (keys_of es) → AllByRecursion (λ p. piece_cmp e.1 p ≡ Less) (pieces_in es)
 first_piece e [] n h s = tt

@@ -79,7 +79,8 @@ grow_full look None q b f g h = grow_no_local look (full_known q) g
 grow_full look (Some p) None b f g h = absurd b
 grow_full look (Some p) (Some q) b f g h = grow_seen look p.ids q.ids p.local q.local b.0 b.1 f g h
 
-abbrev both_out : {A B C : Type 0} → (A → B → C) → Out A → Out B → Out C
+-- what two programs make together
+abbrev pub both_out : {A B C : Type 0} → (A → B → C) → Out A → Out B → Out C
 both_out f o u = record { log = o.log ++ u.log; value = pair_value f o.value u.value }
 
 pair_parts : {A B C : Type 0} (f : A → B → C) (x : Option A) (y : Option B) (c : C) → pair_value f x y ≡ Some c → ((a : A) × (x ≡ Some a)) × ((b : B) × (y ≡ Some b))
@@ -93,7 +94,8 @@ grow_both f o p u v g h = record {
   same = λ c e. let s = pair_parts f o.value u.value c e in ap (λ x. both_out f x v) (g.same s.0.0 s.0.1) ∙ ap (both_out f o) (h.same s.1.0 s.1.1);
 }
 
-contains_after : {A B : Type 0} (looks : List Need) (x : Option A) (f : A → Out B) (look : Need) → Contains looks look → Contains (after looks x f).log look
+-- a look of the first of two programs
+pub contains_after : {A B : Type 0} (looks : List Need) (x : Option A) (f : A → Out B) (look : Need) → Contains looks look → Contains (after looks x f).log look
 contains_after looks None f look h = h
 contains_after looks (Some a) f look h = Contains-append_left looks (f a).log look h
 
@@ -153,11 +155,13 @@ decide_full : {A : Type 0} (w : View) (p : Option Known) (look : Need) (f : List
 decide_full w None look f h r m = absurd (cc)
 decide_full w (Some p) look f h r m = decide_seen w p.ids p.local look f h r m
 
-looked_ids : {A : Type 0} (look : Need) (x : Option (List Label)) (f : List Label → Out A) → Contains (after_ids look x f).log look
+-- the first look is made
+pub looked_ids : {A : Type 0} (look : Need) (x : Option (List Label)) (f : List Label → Out A) → Contains (after_ids look x f).log look
 looked_ids look None f = contains_first look []
 looked_ids look (Some ids) f = contains_first look (f ids).log
 
-looked_full : {A : Type 0} (look : Need) (x : Option Seen) (f : List Label → Local → Out A) → Contains (after_full look x f).log look
+-- so it is at level Full
+pub looked_full : {A : Type 0} (look : Need) (x : Option Seen) (f : List Label → Local → Out A) → Contains (after_full look x f).log look
 looked_full look None f = contains_first look []
 looked_full look (Some seen) f = contains_first look (f seen.ids seen.local).log
 
@@ -188,3 +192,7 @@ determined d w b t m =
     let v = decides w t m in
     let e : run (all_of d) t ≡ run w t = (grows w (all_of d) b t).same v.0 v.1 in
     (sym e, ap (λ (o : Out _). o.value) (sym e) ∙ evals d t)
+
+-- of two programs that follow one another the looks of the first come first
+pub next_log : (document : Node) {A B : Type 0} (r : Run A) (k : A → Run B) → (run (all_of document) (next r k)).log ≡ (run (all_of document) r).log ++ (run (all_of document) (k (eval document r))).log
+next_log document r k = ap (λ o. (after (run (all_of document) r).log o (λ a. run (all_of document) (k a))).log) (evals document r)

@@ -7,8 +7,7 @@ use Rattle.std.proofs.lemmas.List.Elements.{filter_map-append}
 use Rattle.iris_base.specs.declared.name.Label.{Label}
 use Rattle.iris_tree.specs.Attrs.{value_of}
 use Rattle.iris_tree.specs.declared.local.Local.{Local}
-use Rattle.iris_tree.specs.NodeCode.{nodes_of-list_of}
-use Rattle.iris_tree.specs.Universe.{Node, node, Nodes, no_nodes, nodes, nodes_of, list_of, label_of, labels_of, local_of, node_at}
+use Rattle.iris_tree.specs.Universe.{Node, node, Nodes, no_nodes, nodes, list_of, label_of, labels_of, local_of, node_at}
 use Rattle.iris_tree.specs.Document.{place_of, a_node}
 use Rattle.iris_tree.specs.declared.item.Element.TheVariants as elements
 use Rattle.iris_tree.specs.declared.item.Item.{Item}
@@ -26,9 +25,10 @@ use Rattle.iris_tree.specs.Items.{item_at, items_at}
 use Rattle.iris_need.specs.Documents.{IsDocument}
 use Rattle.iris_need.specs.Needs.{from_document}
 use Rattle.iris_base.specs.Attribute.{is_id}
-use Rattle.iris_need.specs.Program.{each, gather, where_so, and_so, subtree, program}
-use Rattle.iris_need.specs.Run.{Run, eval, ids_in}
+use Rattle.iris_need.specs.Program.{gather, where_so, and_so, subtree, program}
+use Rattle.iris_need.specs.Run.{Run, eval}
 use Rattle.iris_need.proofs.Documents.{Stands, AllStand, children_stand, top_stands, room_is, ids_are, local_is, item_is}
+use Rattle.iris_need.proofs.Items.{subtree_is}
 use Rattle.iris_need.specs.ThinProgram.{has_text, all_have_text, thin_tested, thin_goes, thin_from}
 use Rattle.iris_need.proofs.ThinProgram.{thin_program_is}
 
@@ -45,31 +45,6 @@ eval_and document false r = refl
 cond_and : {A : Type 0} (b c : Bool) (x y : A) → cond b (cond c x y) y ≡ cond (b && c) x y
 cond_and true c x y = refl
 cond_and false c x y = refl
-
--- ---- a node with all below it
-
--- so are the children, where each is
-each_below : (document : Node) (name : List Label) (levels : ℕ) → ((c : Node) (at : List Label) → Stands document at c levels → eval document (subtree levels (label_of c) at) ≡ c) → (ns : Nodes) → AllStand document name ns (suc levels)
-    → eval document (each (λ child. subtree levels child (name ++ child ∷ [])) (labels_of (list_of ns))) ≡ list_of ns
-each_below document name levels whole no_nodes h = refl
-each_below document name levels whole (nodes c cs) h =
-    ap (λ (n : Node). n ∷ eval document (each (λ child. subtree levels child (name ++ child ∷ [])) (labels_of (list_of cs)))) (whole c (name ++ label_of c ∷ []) h.0)
-    ∙ ap (λ (ns : List Node). c ∷ ns) (each_below document name levels whole cs h.1)
-
-none_below : (document : Node) (name : List Label) (below : Nodes) → AllStand document name below zero → no_nodes ≡ below
-none_below document name no_nodes h = refl
-none_below document name (nodes c cs) h = absurd h
-
--- the subtree of a node is the node
-subtree_is : (document : Node) (levels : ℕ) (n : Node) (name : List Label) → Stands document name n levels → eval document (subtree levels (label_of n) name) ≡ n
-subtree_is document zero (node l local below) name h =
-    ap (λ (x : Local). node l x no_nodes) (local_is document name (node l local below) h.there) ∙ ap (node l local) (none_below document name below (children_stand document name l local below zero h))
-subtree_is document (suc levels) (node l local below) name h =
-    let n = node l local below in
-    let rest = λ (ids : List Label). nodes_of (eval document (each (λ child. subtree levels child (name ++ child ∷ [])) ids)) in
-    ap (λ (x : Local). node l x (rest (ids_in document name))) (local_is document name n h.there) ∙ ap (λ (ids : List Label). node l local (rest ids)) (ids_are document name n h.there)
-    ∙ ap (λ (ns : List Node). node l local (nodes_of ns)) (each_below document name levels (λ c at s. subtree_is document levels c at s) below (children_stand document name l local below (suc levels) h))
-    ∙ ap (node l local) (nodes_of-list_of below)
 
 -- ---- the test of a step
 

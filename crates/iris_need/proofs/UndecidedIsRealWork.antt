@@ -1,19 +1,14 @@
 -- What is missing is looked at over each document that agrees, and where nothing is missing, all is as over all of that document.
 use Rattle.std.proofs.Common.{◌≡◌, Bool, true, false, cond, not, ◌⊎◌, inl, inr, List, [], ◌∷◌, map, filter, Option, Some, None, option_map, Contains, refl, sym, ap, subst, ◌∙◌, arith}
-use Rattle.std.specs.Cmp.Lexicographic.{slice_cmp}
-use Rattle.std.specs.BTreeMap.{is_at}
 use Rattle.std.specs.Option.{option_map_or}
 use Rattle.std.proofs.lemmas.List.Elements.{All-contains, All-contains_itself, All-filter, filter_passes}
-use Rattle.std.proofs.lemmas.Map.Views.{Contains-from_lookup}
 use Rattle.iris_base.specs.declared.name.Label.{Label}
-use Rattle.iris_base.specs.NameOrder.{label_cmp}
 use Rattle.iris_tree.specs.declared.local.Local.{Local}
 use Rattle.iris_tree.specs.Universe.{Node, label_of, local_of, ids_of}
 use Rattle.iris_fragment.specs.declared.piece.Full.{Full}
 use Rattle.iris_fragment.specs.declared.piece.Piece.{Piece}
 use Rattle.iris_fragment.specs.declared.piece.Level.{Level}
 use Rattle.iris_fragment.specs.declared.piece.Level.TheVariants as level
-use Rattle.iris_fragment.proofs.Names.{name_exact, equal_from_is_eq}
 use Rattle.iris_tree.specs.declared.item.Item.{Item}
 use Rattle.iris_xpath.specs.Syntax.{Syntax}
 use Rattle.iris_xpath.proofs.SelectedPlaces.{and_true}
@@ -26,6 +21,7 @@ use Rattle.iris_need.specs.Needs.{is_under, seen_from, evaluation, looks, is_mis
 use Rattle.iris_need.specs.Laws.{HasLook, IsOpenAtStart}
 use Rattle.iris_need.proofs.Run.{contains_first, contains_later, first_or_later, grows, determined, AllMet}
 use Rattle.iris_need.proofs.Merged.{merged_have, merged_empty}
+use Rattle.iris_need.proofs.Pieces.{found_there}
 
 -- ---- a view of pieces is part of all of each document that agrees
 
@@ -44,8 +40,7 @@ piece_below document name (Some piece) h =
 -- the pieces of a view know less than the whole document
 pub pieces_below : (document : Node) (pieces : Pieces) → Agrees document pieces → Below (view_of pieces) (all_of document)
 pieces_below document pieces agrees name = piece_below document name (piece_at pieces name) (λ piece found.
-    All-contains (λ entry. IsPieceAt document entry.0 entry.1) pieces (name, piece) agrees
-    (Contains-from_lookup {eq = λ q. is_at (slice_cmp label_cmp q)} (λ x y same. name_exact x y (equal_from_is_eq _ same)) name piece pieces found))
+    All-contains (λ entry. IsPieceAt document entry.0 entry.1) pieces (name, piece) agrees (found_there pieces name piece found))
 
 below_if : (b : Bool) (p q : Option Known) → KnownBelow p q → KnownBelow (cond b p None) (cond b q None)
 below_if true p q h = h
@@ -80,7 +75,8 @@ all_pass p (x ∷ xs) h = ap (λ b. cond b (x ∷ filter p xs) (filter p xs)) (h
 
 -- ---- nothing missing from the document on
 
-not_false : (b : Bool) → not b ≡ false → b ≡ true
+-- what is not false is true
+pub not_false : (b : Bool) → not b ≡ false → b ≡ true
 not_false true e = refl
 not_false false e = absurd (cc)
 

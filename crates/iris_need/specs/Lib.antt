@@ -1,10 +1,16 @@
+pub mod Alike
 pub mod Answers
 pub mod Collected
+pub mod Decided
+pub mod Descents
 pub mod Documents
+pub mod Found
 pub mod Laws
 pub mod Needs
 pub mod Pieces
+pub mod Placed
 pub mod Program
 pub mod Run
+pub mod Spots
 pub mod Starts
 pub mod ThinProgram

@@ -10,6 +10,7 @@ use Rattle.iris_tree.specs.Universe.{Node, label_of}
 use Rattle.iris_fragment.specs.declared.piece.Level.{Level}
 use Rattle.iris_fragment.specs.declared.piece.Level.TheVariants.{Ids, Full}
 use Rattle.iris_tree.specs.declared.item.Item.{Item}
+use Rattle.iris_xpath.specs.Looks.{Extent, ids, full}
 use Rattle.iris_xpath.specs.Syntax.{Syntax}
 use Rattle.iris_need.specs.declared.need.Need.{Need}
 use Rattle.iris_need.specs.declared.need.Start.{Start}
@@ -127,3 +128,8 @@ full_part needs = map (λ need. need.name) (filter is_full needs)
 -- the names that a query looks at with level Full, over all of a document
 abbrev pub full_names : Syntax → Node → List (List Label)
 full_names query document = full_part (merged (map without_states (looks query (from_document (label_of document)) (all_of document))))
+
+-- a level as it stands in the meaning of queries
+abbrev pub extent_of_level : Level → Extent
+extent_of_level Ids = ids
+extent_of_level Full = full

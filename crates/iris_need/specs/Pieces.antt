@@ -1,5 +1,5 @@
 -- A view: pieces by their names, and which documents agree with it.
-use Rattle.std.specs.Prelude.{◌≡◌, List, map, All, Option, Some, None, IfSome, option_map}
+use Rattle.std.specs.Prelude.{◌≡◌, List, map, fold, All, Option, Some, None, IfSome, option_map}
 use Rattle.std.specs.Map.{lookup}
 use Rattle.std.specs.BTreeMap.{is_at, insert_entry}
 use Rattle.std.specs.Cmp.Lexicographic.{slice_cmp}
@@ -48,6 +48,10 @@ joined_pieces (Some old) piece = record { name = old.name; ids = old.ids; full =
 -- the view with one piece more
 abbrev pub with_piece : Pieces → Piece → Pieces
 with_piece pieces piece = insert_entry (slice_cmp label_cmp) pieces piece.name (joined_pieces (piece_at pieces piece.name) piece)
+
+-- these pieces added to a view, one after another: what the view has stays
+abbrev pub laid_over : List Piece → Pieces → Pieces
+laid_over pieces view = fold with_piece view pieces
 
 -- ---- what an evaluation sees of it
 

@@ -1,5 +1,5 @@
 -- The program of a query: what an evaluation looks at, state by state, and what it gives.
-use Rattle.std.specs.Prelude.{ℕ, zero, suc, ◌+◌, ◌-◌, Bool, true, false, not, ◌&&◌, ◌||◌, if◌then◌else◌, List, [], ◌∷◌, ◌++◌, length, drop, map, filter, Option, Some, None, option_and_then, slice_get}
+use Rattle.std.specs.Prelude.{ℕ, zero, suc, ◌+◌, ◌-◌, Bool, true, false, not, ◌&&◌, ◌||◌, if◌then◌else◌, List, [], ◌∷◌, ◌++◌, length, drop, map, filter, Option, Some, None}
 use Rattle.std.specs.List.{list_any, filter_map}
 use Rattle.std.specs.Str.{bytes_eq}
 use Rattle.std.specs.Cmp.Lexicographic.{pointwise}
@@ -10,7 +10,7 @@ use Rattle.iris_base.specs.declared.limits.TheConstants.{MAX_LABELS}
 use Rattle.iris_tree.specs.declared.local.Local.{Local}
 use Rattle.iris_tree.specs.Attrs.{value_of}
 use Rattle.iris_tree.specs.Universe.{Node, node, nodes_of, no_nodes}
-use Rattle.iris_tree.specs.Document.{position, label, Place, Part, whole, a_node, a_plain, below_plain, numbered, plain_places}
+use Rattle.iris_tree.specs.Document.{Place, Part, whole, a_node, a_plain}
 use Rattle.iris_fragment.specs.declared.piece.Level.{Level}
 use Rattle.iris_fragment.specs.declared.piece.Level.TheVariants.{Ids, Full}
 use Rattle.iris_tree.specs.declared.item.Element.TheVariants as elements
@@ -22,7 +22,7 @@ use Rattle.iris_xpath.specs.declared.expression.NameTest.TheVariants.{Any, Kind,
 use Rattle.iris_xpath.specs.Syntax.{Syntax, Condition, any_of, all_of, not_so, selects, compares, Conditions, no_conditions, conditions, Side, values_of, literal, number, Steps, here, attribute, itself, parent, step, MainStep, main_of}
 use Rattle.iris_xpath.specs.Meaning.{Value, of_text, of_number, compare, has_some, is_reached, passes, front, attribute_at}
 use Rattle.iris_xpath.specs.Meaning as meaning
-use Rattle.iris_xpath.specs.Places.{is_above}
+use Rattle.iris_xpath.specs.Places.{is_above, element_at, element_paths}
 use Rattle.iris_need.specs.declared.need.State.{State}
 use Rattle.iris_need.specs.declared.need.State.TheVariants as states
 use Rattle.iris_need.specs.declared.need.Start.{Start}
@@ -87,15 +87,6 @@ abbrev pub spots_above : Spot → List Spot
 spots_above document_spot = []
 spots_above (node_spot name l) = above_name name
 spots_above (element_spot name local path) = above_element name local path ∷ []
-
--- the plain elements in local information, by their positions
-abbrev pub element_at : Local → Place → Option Part
-element_at local [] = None
-element_at local (position i ∷ path) = option_and_then (λ p. below_plain p path) (slice_get local.plain i)
-element_at local (label l ∷ path) = None
-
-abbrev pub element_paths : Local → List Place
-element_paths local = numbered 0 (map plain_places local.plain)
 
 -- those to which a step goes from one of them, or from the node
 abbrev pub step_elements : Separator → NameTest → Local → Place → List Place

@@ -11,6 +11,12 @@ mod Laws
 mod Leads
 mod Numbers
 mod Pads
+pub mod Below
+pub mod GivesQuery
+pub mod IsQueryWord
+pub mod Names
+pub mod Order
+pub mod Passes
 pub mod PlaceOrder
 mod Runs
 pub mod SelectedPlaces

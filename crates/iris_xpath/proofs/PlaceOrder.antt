@@ -12,19 +12,21 @@ use Rattle.iris_base.specs.declared.name.Label.{Label}
 use Rattle.iris_base.specs.NameOrder.{label_cmp, labels_total}
 use Rattle.iris_tree.specs.declared.plain.Plain.{Plain}
 use Rattle.iris_tree.specs.declared.plain.Plain.TheViews.{out-Plain, out-roll-Plain}
-use Rattle.iris_tree.specs.declared.plain.Plain.TheFolds.{fold_out-Plain, ind-Plain}
+use Rattle.iris_tree.specs.declared.plain.Plain.TheFolds.{ind-Plain}
 use Rattle.iris_tree.specs.Universe.{Node, node, Nodes, no_nodes, nodes, label_of, AllAfter, IsOrdered, AreOrdered}
-use Rattle.iris_tree.specs.Document.{Edge, position, label, Place, numbered, plain_places, plain_places_step, node_places, all_node_places, places}
+use Rattle.iris_tree.specs.Document.{Edge, position, label, Place, numbered, plain_places, node_places, all_node_places, places}
 use Rattle.iris_xpath.specs.Syntax.{Syntax, MainStep, main_of}
 use Rattle.iris_xpath.specs.Meaning.{is_reached, fits, step_to, steps_to, selected}
 use Rattle.iris_xpath.specs.PlaceOrder.{edge_cmp, place_cmp}
+use Rattle.iris_xpath.proofs.Below.{below, node_form, plain_form}
 
 abbrev Rises : List Place → Type 0
 Rises ps = IsStrictlySortedBy place_cmp ps
 
 -- ---- one edge and another
 
-equal_itself : (o : Ordering) → o ≡ ordering_reverse o → o ≡ Equal
+-- what is its own reverse is equal
+pub equal_itself : (o : Ordering) → o ≡ ordering_reverse o → o ≡ Equal
 equal_itself Less h = absurd (cc)
 equal_itself Equal h = refl
 equal_itself Greater h = absurd (cc)
@@ -104,9 +106,6 @@ rises_first ps h k = (first_of ps h, k)
 abbrev kids_of : Plain → List Place
 kids_of p = [] ∷ numbered 0 (map plain_places (out-Plain p).kids)
 
-plain_form : (p : Plain) (i : ℕ) → plain_places p i ≡ map (λ place. position i ∷ place) (kids_of p)
-plain_form p i = ap (λ (f : ℕ → List Place). f i) (fold_out-Plain (ℕ → List Place) plain_places_step p)
-
 numbered_edges : (ps : List Plain) (i : ℕ) (tail : List Place) → AllHaveEdges tail → AllHaveEdges (numbered i (map plain_places ps) ++ tail)
 numbered_edges [] i tail h = h
 numbered_edges (p ∷ ps) i tail h =
@@ -151,12 +150,6 @@ plain_rises [] = tt
 plain_rises (p ∷ ps) = (kids_rise p, plain_rises ps)
 
 -- ---- nodes
-
-abbrev below : Node → List Place
-below (node l local ns) = [] ∷ numbered 0 (map plain_places local.plain) ++ all_node_places ns
-
-node_form : (n : Node) → node_places n ≡ map (λ place. label (label_of n) ∷ place) (below n)
-node_form (node l local ns) = refl
 
 nodes_edges : (ns : Nodes) → AllHaveEdges (all_node_places ns)
 nodes_edges no_nodes = tt

@@ -3,7 +3,7 @@ use Rattle.std.proofs.Common.{◌≡◌, ℕ, Bool, true, false, cond, ◌&&◌,
 use Rattle.std.specs.List.{list_any}
 use Rattle.std.proofs.lemmas.Slice.Eq.{bytes_eq-Decides}
 use Rattle.iris_base.specs.declared.name.Label.{Label}
-use Rattle.iris_base.specs.NameOrder.{label_eq, labels_equiv}
+use Rattle.iris_base.specs.NameOrder.{label_eq}
 use Rattle.iris_base.proofs.Labels.{label_eq-Decides}
 use Rattle.iris_tree.specs.declared.plain.Plain.{Plain}
 use Rattle.iris_tree.specs.Universe.{Node, node, Nodes, no_nodes, nodes, list_of, label_of, child_of}
@@ -13,6 +13,8 @@ use Rattle.iris_xpath.specs.Thin.{Main}
 use Rattle.iris_xpath.specs.ThinQuery.{thin_of}
 use Rattle.iris_xpath.specs.Places.{edge_eq, is_parent, is_above}
 use Rattle.iris_xpath.specs.ThinMeaning.{fits, step_to, steps_to, selected, tested_with_a_look, is_looked_into, full_names}
+use Rattle.iris_xpath.proofs.Below.{begins, always, is_edge, edge_itself, above_begins}
+use Rattle.iris_xpath.proofs.Passes.{any_alike, and_assoc}
 
 -- ---- Bool
 
@@ -34,10 +36,6 @@ and_right false = refl
 pub and_false : (a : Bool) → (a && false) ≡ false
 and_false true = refl
 and_false false = refl
-
-and_assoc : (a b c : Bool) → ((a && b) && c) ≡ (a && (b && c))
-and_assoc true b c = refl
-and_assoc false b c = refl
 
 or_and : (a b c : Bool) → ((a && b) || (a && c)) ≡ (a && (b || c))
 or_and true b c = refl
@@ -68,16 +66,6 @@ leads test at (s ∷ ss) (e ∷ place) = fits (at (e ∷ [])) s && leads test (�
 abbrev pub is_end : Place → Bool
 is_end [] = true
 is_end (e ∷ place) = false
-
--- one edge is left
-abbrev pub is_edge : Place → Bool
-is_edge [] = false
-is_edge (e ∷ []) = true
-is_edge (e ∷ f ∷ place) = false
-
--- whatever is left
-abbrev pub always : Place → Bool
-always place = true
 
 -- the steps lead just to the place
 abbrev pub reached : Parts → List Main → Place → Bool
@@ -113,27 +101,12 @@ edge_is (position i) (label m) h = absurd (cc)
 edge_is (label l) (position j) h = absurd (cc)
 edge_is (label l) (label m) h = ap label ((label_eq-Decides l m).0 h)
 
-edge_same : (e : Edge) → edge_eq e e ≡ true
-edge_same (position i) = (bytes_eq-Decides (i ∷ []) (i ∷ [])).1 refl
-edge_same (label l) = labels_equiv.refl l
-
--- the one place is at the front of the other, and what follows it there passes the test
-abbrev begins : (Place → Bool) → Place → Place → Bool
-begins test [] place = test place
-begins test (e ∷ front) [] = false
-begins test (e ∷ front) (f ∷ place) = edge_eq e f && begins test front place
-
 parent_begins : (front place : Place) → is_parent front place ≡ begins is_edge front place
 parent_begins [] [] = refl
 parent_begins [] (f ∷ []) = refl
 parent_begins [] (f ∷ g ∷ place) = refl
 parent_begins (e ∷ front) [] = refl
 parent_begins (e ∷ front) (f ∷ place) = ap (λ b. edge_eq e f && b) (parent_begins front place)
-
-above_begins : (front place : Place) → is_above front place ≡ begins always front place
-above_begins [] place = refl
-above_begins (e ∷ front) [] = refl
-above_begins (e ∷ front) (f ∷ place) = ap (λ b. edge_eq e f && b) (above_begins front place)
 
 -- from a place at the front to which steps lead
 led : (test : Place → Bool) (at : Parts) (q : List Main) (front place : Place) → begins test front place ≡ true → reached at q front ≡ true → leads (λ a p. test p) at q place ≡ true
@@ -159,7 +132,7 @@ front_led test at (s ∷ ss) [] h = absurd (cc)
 front_led test at (s ∷ ss) (e ∷ place) h =
     let p = and_true (fits (at (e ∷ [])) s) (leads (λ a p. test p) (λ p. at (e ∷ p)) ss place) h in
     let r = front_led test (λ p. at (e ∷ p)) ss place p.1 in
-    (and_both (edge_eq e e) _ (edge_same e) r.0, and_both (fits (at (e ∷ [])) s) _ p.0 r.1)
+    (and_both (edge_eq e e) _ (edge_itself e) r.0, and_both (fits (at (e ∷ [])) s) _ p.0 r.1)
 
 -- ---- steps lead to places of the document alone
 
@@ -268,17 +241,13 @@ context_begins test document q place =
     let p = front_led test at q place h in
     some_kept (λ front. begins test front place) (reached at q) (front_of q place) (places document) (place_among document q (front_of q place) p.1) p.0 p.1)
 
-any_same : (t u : Place → Bool) → ((x : Place) → t x ≡ u x) → (xs : List Place) → list_any t xs ≡ list_any u xs
-any_same t u h [] = refl
-any_same t u h (x ∷ xs) = rw (h x, any_same t u h xs) refl
-
 any_parent : (document : Node) (q : List Main) (place : Place) → list_any (λ above. is_parent above place) (context_of document q) ≡ leads (λ a p. is_edge p) (part_at_place document) q place
 any_parent document q place =
-    any_same (λ above. is_parent above place) (λ front. begins is_edge front place) (λ x. parent_begins x place) (context_of document q) ∙ context_begins is_edge document q place
+    any_alike (λ above. is_parent above place) (λ front. begins is_edge front place) (λ x. parent_begins x place) (context_of document q) ∙ context_begins is_edge document q place
 
 any_above : (document : Node) (q : List Main) (place : Place) → list_any (λ above. is_above above place) (context_of document q) ≡ leads (λ a p. always p) (part_at_place document) q place
 any_above document q place =
-    any_same (λ above. is_above above place) (λ front. begins always front place) (λ x. above_begins x place) (context_of document q) ∙ context_begins always document q place
+    any_alike (λ above. is_above above place) (λ front. begins always front place) (λ x. above_begins x place) (context_of document q) ∙ context_begins always document q place
 
 -- tests that agree keep the same
 pub filter_same : {A : Type 0} (t u : A → Bool) → ((x : A) → t x ≡ u x) → (xs : List A) → filter t xs ≡ filter u xs

@@ -9,15 +9,15 @@ use Rattle.iris_base.specs.NameOrder.{label_eq, label_cmp, labels_equiv, labels_
 use Rattle.iris_tree.specs.declared.local.Local.{Local}
 use Rattle.iris_tree.specs.declared.plain.Plain.{Plain}
 use Rattle.iris_tree.specs.declared.plain.Plain.TheViews.{out-Plain}
-use Rattle.iris_tree.specs.declared.plain.Plain.TheFolds.{fold_out-Plain}
 use Rattle.iris_tree.specs.Universe.{Node, node, Nodes, no_nodes, nodes, list_of, label_of, child_of, AllAfter, IsOrdered, AreOrdered}
-use Rattle.iris_tree.specs.Document.{Edge, position, label, Place, place_of, a_node, below_node, part_at_place, numbered, plain_places, plain_places_step, node_places, all_node_places, names_of, all_names_of}
+use Rattle.iris_tree.specs.Document.{Edge, position, label, Place, place_of, a_node, below_node, part_at_place, numbered, plain_places, node_places, all_node_places, names_of, all_names_of}
 use Rattle.iris_xpath.specs.Syntax.{Syntax}
 use Rattle.iris_xpath.specs.Meaning as tree
 use Rattle.iris_xpath.specs.Thin.{Main}
 use Rattle.iris_xpath.specs.ThinQuery.{is_thin, thin_of}
 use Rattle.iris_xpath.specs.ThinMeaning.{fits, tested_with_a_look, selected, full_names}
-use Rattle.iris_xpath.proofs.SelectedPlaces.{Parts, is_end, is_edge, reached, looked, plain_never, selected_is, full_names_are}
+use Rattle.iris_xpath.proofs.Below.{is_edge, plain_form}
+use Rattle.iris_xpath.proofs.SelectedPlaces.{Parts, is_end, reached, looked, plain_never, selected_is, full_names_are}
 use Rattle.iris_xpath.proofs.ThinQuery.{selected_thin}
 use Rattle.iris_xpath.specs.Walk.{led_to, all_led_to, looked_at, all_looked_at}
 
@@ -48,9 +48,6 @@ filter_and true t xs = refl
 filter_and false t xs = filter_none xs
 
 -- ---- places of plain elements
-
-plain_form : (p : Plain) (i : ℕ) → plain_places p i ≡ map (λ place. position i ∷ place) ([] ∷ numbered 0 (map plain_places (out-Plain p).kids))
-plain_form p i = ap (λ (f : ℕ → List Place). f i) (fold_out-Plain (ℕ → List Place) plain_places_step p)
 
 filter_plain : (t : Place → Bool) (i : ℕ) → ((place : Place) → t (position i ∷ place) ≡ false) → (ps : List Place) → filter t (map (λ place. position i ∷ place) ps) ≡ []
 filter_plain t i h [] = refl

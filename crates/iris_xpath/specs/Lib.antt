@@ -14,6 +14,7 @@ pub mod Printed
 pub mod Reading
 pub mod Refused
 pub mod Spells
+pub mod Same
 pub mod Syntax
 pub mod Tally
 pub mod Thin
