@@ -1,6 +1,7 @@
 mod Again
 mod Anchors
 mod Begins
+pub mod Below
 mod Deeper
 mod Digits
 mod Endings
@@ -9,13 +10,10 @@ mod High
 mod Judging
 mod Laws
 mod Leads
-mod Numbers
-mod Pads
-pub mod Below
-pub mod GivesQuery
-pub mod IsQueryWord
 pub mod Names
+mod Numbers
 pub mod Order
+mod Pads
 pub mod Passes
 pub mod PlaceOrder
 mod Runs

@@ -13,8 +13,8 @@ pub mod Places
 pub mod Printed
 pub mod Reading
 pub mod Refused
-pub mod Spells
 pub mod Same
+pub mod Spells
 pub mod Syntax
 pub mod Tally
 pub mod Thin
