@@ -357,13 +357,16 @@ behind_fewer : (o : Option QueryLimit) (q : Syntax) (p r : ℕ) → p ≤ r → 
 behind_fewer (Some w) q p r h e = e
 behind_fewer None q p r h e = gate which.Parens which.Depth (nat_lt 16 r) (nat_lt 16 p) (nat_lt 4 (main_tally q).depth) (fewer p r h) e
 
+-- what a word tests prints as the word
 pub keeps : (kinds : List (List ℕ)) → Keeps (named kinds)
 keeps kinds w = on_test (λ (t : NameTest). test_shown t ≡ w) (has kinds w) _ _ (λ _. refl) (λ _. refl)
 
+-- a query that was read prints to a text that is read as it
 pub reads_again : (q : Syntax) → ReadsAgain q
 reads_again q kinds f =
     let a = again (named kinds) (keeps kinds) f.0 q f.1.1.0 f.1.1.1 in
     ((a.0, a.1), λ l. (l, (a.0, a.1, behind_fewer (excess q) q (parens_of a.0) (parens_of f.1.1.0) a.2 f.1.1.2)))
 
+-- reading the printed form gives the query
 pub gives_again : (kinds : List (List ℕ)) (q : Syntax) (text : List ℕ) (result : Result Syntax QueryError) → text ≡ printed q → ((v : Syntax) → Found (named kinds) text v → Gives v result) → IsRead (named kinds) q → length (printed q) ≤ 4096 → Gives q result
 gives_again kinds q text result e exact r l = exact q (subst (λ (z : List ℕ). Found (named kinds) z q) (sym e) ((reads_again q kinds r).1 l))

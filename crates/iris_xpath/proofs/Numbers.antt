@@ -163,6 +163,7 @@ number_again : (neg : Bool) (ds : List ℕ) → ConstOf (operands.Number (number
 number_again neg ds =
     on_test (λ (z : ℤ). ConstOf (operands.Number z)) (nat_le (length ds) 18) _ _ (λ h. signed_again neg (value_of ds) (few_digits ds h)) (λ h. natural_again (10 ^ 18) (omega arith))
 
+-- a literal or a number is written again as it prints
 pub const_again : (c : Const) → GoodConst c → ConstOf (const_tree c)
 const_again (literal q v) g = literal_again q v g.0 g.1
 const_again (number a w) g = number_again false (a ∷ row w)
