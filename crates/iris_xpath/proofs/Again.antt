@@ -1,14 +1,12 @@
 -- What is read prints to a text that is read as the same query: for each tree as written there is one that is
 -- written as its query prints.
-use Rattle.std.proofs.Common.{◌≡◌, ℕ, suc, max, ◌≤◌, false, true, List, [], ◌∷◌, ◌++◌, refl, ap, sym, ◌∙◌, subst, arith, append_assoc, append-nil, map, length, codes, Option, Some, None, Bool, if◌then◌else◌, nat_lt, Result}
+use Rattle.std.proofs.Common.{◌≡◌, ℕ, suc, max, ◌≤◌, false, true, List, [], ◌∷◌, ◌++◌, refl, ap, sym, ◌∙◌, subst, arith, append_assoc, append-nil, map, length, codes, Option, Some, None, Bool, if◌then◌else◌, nat_lt}
 use Rattle.std.proofs.lemmas.Bool.Decides.{nat_tests}
-use Rattle.iris_xpath.specs.declared.error.QueryError.{QueryError}
 use Rattle.iris_xpath.specs.declared.error.QueryLimit.{QueryLimit}
 use Rattle.iris_xpath.specs.declared.error.QueryLimit.TheVariants as which
 use Rattle.iris_base.specs.declared.limits.TheConstants.{MAX_PARENTHESES, MAX_NESTING}
 use Rattle.iris_xpath.specs.Tally.{main_tally, excess, limit_behind}
-use Rattle.iris_xpath.specs.Told.{Found, Gives}
-use Rattle.iris_xpath.specs.Again.{IsRead, ReadsAgain}
+use Rattle.iris_xpath.specs.Again.{ReadsAgain}
 use Rattle.iris_xpath.proofs.Leads.{on_test}
 use Rattle.std.proofs.lemmas.List.{map-append}
 use Rattle.std.proofs.lemmas.List.Concat.{flat_map-append}

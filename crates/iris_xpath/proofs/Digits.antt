@@ -23,13 +23,13 @@ pub fits_more : (v r i : ℕ) → v < 10 ^ i → r ≤ 9 → i < MAX_DIGITS → 
 fits_more v r i h k l =
     let p : v * 10 + r < 10 ^ (i + 1) = small_more v r i h k in
     let z : 0 < 10 = omega arith in
-    let y : i + 1 ≤ 18 = omega arith in
-    let q : 10 ^ (i + 1) ≤ 10 ^ 18 = pow-le-pow_right z y in
+    let y : i + 1 ≤ MAX_DIGITS = omega arith in
+    let q : 10 ^ (i + 1) ≤ 10 ^ MAX_DIGITS = pow-le-pow_right z y in
     omega (arith, p, q)
 
--- the bound of at most 18 digits
+-- the bound of at most `MAX_DIGITS` digits
 pub small_all : (v i : ℕ) → v < 10 ^ i → i ≤ MAX_DIGITS → v < 10 ^ MAX_DIGITS
-small_all v i h l = let z : 0 < 10 = omega arith in let q : 10 ^ i ≤ 10 ^ 18 = pow-le-pow_right z l in omega (arith, h, q)
+small_all v i h l = let z : 0 < 10 = omega arith in let q : 10 ^ i ≤ 10 ^ MAX_DIGITS = pow-le-pow_right z l in omega (arith, h, q)
 
 -- ten times the value fits 64 bits
 pub fits_times : (v i : ℕ) → v < 10 ^ i → i < MAX_DIGITS → Fits w64 (v * 10)

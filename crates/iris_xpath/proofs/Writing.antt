@@ -48,12 +48,6 @@ linked_map link text g xs i x a b c d l e h k j =
     let q : map g (take (i + 1) xs) ≡ map g (take i xs) ++ g x ∷ [] = ap (map g) (take_more xs i x l) ∙ map-append g (take i xs) (get_or xs i x ∷ []) ∙ ap (λ y. map g (take i xs) ++ g y ∷ []) (sym e) in
     rw q (linked_on link text (map g (take i xs)) (g x) i a b c d (length-map (take i xs) g ∙ length_take xs i l) h k j)
 
--- one text more without a link
-pub flat_more : {X : Type 0} (f : X → List ℕ) (xs : List X) (i : ℕ) (x : X) (a b d : List ℕ) → i < length xs → x ≡ get_or xs i x → b ≡ a ++ flat_map f (take i xs) → d ≡ b ++ f x → d ≡ a ++ flat_map f (take (i + 1) xs)
-flat_more f xs i x a b d l e h k =
-    let q : flat_map f (take i xs ++ x ∷ []) ≡ flat_map f (take i xs) ++ (f x ++ []) = flat_map-append f (take i xs) (x ∷ []) in
-    rw (take_more xs i x l, ← e, q, append-nil (f x)) (k ∙ rw h (append_assoc a (flat_map f (take i xs)) (f x)))
-
 -- one predicate more
 pub bracketed_more : (xs : List Expression) (i : ℕ) (x : Expression) (a b c d e : List ℕ) → i < length xs → x ≡ get_or xs i x → b ≡ a ++ predicates_text (take i xs) → c ≡ b ++ 91 ∷ [] → d ≡ c ++ (shown x).text → e ≡ d ++ 93 ∷ [] → e ≡ a ++ predicates_text (take (i + 1) xs)
 bracketed_more xs i x a b c d e l is h k j m =
