@@ -190,10 +190,6 @@ reached_literal n text q side fs rest v after r e h =
     let a : text ≡ (r.0 ++ (v ++ q ∷ [])) ++ after = r.1 ∙ ap (λ (x : List ℕ). r.0 ++ x) e ∙ simp append_assoc in
     (r.0 ++ (v ++ q ∷ []), a, run_more n (v ++ q ∷ []) r.0 start (at (states.InLiteral q side) fs) r.2 ∙ literal_whole n q v side fs h)
 
--- where the reader begins
-pub reached_start : (n : List ℕ → NameTest) (text : List ℕ) → Reached n text states.Start [] text
-reached_start n text = ([], refl, refl)
-
 -- a state at which the reader stops
 pub stop_at : (n : List ℕ → NameTest) → Tells n → Knows n → (text : List ℕ) (p : State) (fs : List Frame) (rest : List ℕ) → Reached n text p fs rest → rest ≢ [] → ((b : ℕ) (z : List ℕ) → rest ≡ b ∷ z → next n (at p fs) b ≡ None) → Judged n text (length text - length rest)
 stop_at n t k text p fs [] r s h = absurd (s refl)
@@ -369,10 +365,6 @@ pub traced_literal : (n : List ℕ → NameTest) (text : List ℕ) (q : ℕ) (si
 traced_literal n text q side fs rest after p d r h =
     let a : text ≡ (r.0 ++ (h.0 ++ q ∷ [])) ++ after = r.1 ∙ ap (λ (x : List ℕ). r.0 ++ x) h.1 ∙ simp append_assoc in
     (r.0 ++ (h.0 ++ q ∷ []), a, trace_more n (h.0 ++ q ∷ []) r.0 start (at (states.InLiteral q side) fs) 0 d r.2 ∙ literal_traced n q h.0 side fs d h.2 ∙ ap (λ (x : State). Some (at x fs, max d (parens_in fs))) (sym h.3))
-
--- where the trace begins
-pub traced_start : (n : List ℕ → NameTest) (text : List ℕ) → Traced n text states.Start [] text 0
-traced_start n text = ([], refl, refl)
 
 -- the steps at the end, and their parentheses
 pub found_end : (n : List ℕ → NameTest) → Tells n → Knows n → (text : List ℕ) (p : State) (fs : List Frame) (rest : List ℕ) (q : Syntax) (d : ℕ) → Reached n text p fs rest → Traced n text p fs rest d → rest ≡ [] → Some q ≡ accept n (at p fs) → (m : Main) × Spells n text q m × (d ≡ parens_of m)

@@ -129,11 +129,6 @@ leads_begin : (n : List ℕ → NameTest) (B : Before) (b : ℕ) (text : List �
 leads_begin n B b text e g r = on_test (Leads n text b) (b == 40) _ _ (λ k. (w_unit (before (paren B none) no_or no_and), refl, rw (is_byte b 40 k, e) (append-nil (before_text B ++ 40 ∷ [])), (((g, tt), tt, tt), refl)))
     (λ _. leads_operand n (left B) b text e g r)
 
-abbrev blank_opening : Opening → ℕ → Opening
-blank_opening (bracket t s g) b = bracket t s (more g b)
-blank_opening (paren B g) b = paren B (more g b)
-blank_opening (not_paren t B g) b = not_paren t B (more g b)
-
 leads_gap : (n : List ℕ → NameTest) (B : Before) (b : ℕ) (text : List ℕ) → is_blank b ≡ true → text ≡ before_text B → GoodBefore B → Leads n text b (Some (at (states.Unit (level n B)) (frames_before n B)))
 leads_gap n (before op o (after_and a g)) b text k e h = (w_unit (before op o (after_and a (more g b))), refl, rw e (simp append_assoc), ((h.0, h.1, (h.2.0, h.2.1, h.2.2, (h.2.3, k))), refl))
 leads_gap n (before op (after_or o g) no_and) b text k e h = (w_unit (before op (after_or o (more g b)) no_and), refl, rw e (simp (append_assoc, append-nil)), ((h.0, (h.1.0, h.1.1, (h.1.2, k)), tt), refl))
@@ -312,9 +307,6 @@ leads_right : (n : List ℕ → NameTest) (a : Arg) (c : Cmp) (B : Before) (b : 
 leads_right n a c B b g = on_test (λ p. Leads n (written (w_right a c B)) b (below (frames_before n B) p)) (is_blank b) _ _ (λ k. (w_right a (cmp_blank c b) B, refl, simp append_assoc, (g.0, (g.1, k), g.2, g.3)))
     (λ _. leads_operand n (right a c B) b (before_text B ++ (arg_text a ++ cmp_text c)) refl (g.0, g.1, g.2) g.3)
 
-link_room : (B : Before) (t : Term) (b : ℕ) → Room B (starts_term t) → Room B (starts_term t)
-link_room B t b r = r
-
 abbrev and_before : Before → Term → Before
 and_before (before op o a) t = before op o (after_and (ands_with a t) none)
 
@@ -366,9 +358,6 @@ leads_or n t (before op o a) b g k =
 
 leads_letter : (n : List ℕ → NameTest) (l m : Link) (k : ℕ) (t : Term) (B : Before) (b : ℕ) → link_text m ≡ link_text l ++ k ∷ [] → Good (w_link l t B) → Leads n (before_text B ++ (term_text t ++ link_text l)) b (below (frames_before n B) (link_if (b == k) m (term_tree n t) (level n B)))
 leads_letter n l m k t B b e g = on_test (λ p. Leads n (written (w_link l t B)) b (below (frames_before n B) p)) (b == k) _ _ (λ h. (w_link m t B, refl, rw (is_byte b k h, e) (simp append_assoc), g)) (λ h. tt)
-
-room_dash : (e : Bool) (b : ℕ) → is_word_byte b ≡ false → (e && is_word_byte b) ≡ false
-room_dash e b h = rw h (and_false e)
 
 -- so it is in each state
 pub leads : (n : List ℕ → NameTest) → Tells n → (w : Written) (b : ℕ) → Good w → Leads n (written w) b (next n (shape n w) b)

@@ -1,5 +1,5 @@
 -- What is counted, loop by loop and form by form.
-use Rattle.std.proofs.Common.{◌≡◌, ℕ, suc, Bool, ◌||◌, ◌<◌, ◌+◌, List, [], ◌∷◌, ◌++◌, refl, ap, sym, ◌∙◌, map, take, get_or, length, Option, Some, None, min, max, true, false, arith}
+use Rattle.std.proofs.Common.{◌≡◌, ℕ, suc, Bool, ◌||◌, ◌<◌, ◌+◌, List, [], ◌∷◌, ◌++◌, refl, ap, sym, ◌∙◌, map, take, get_or, length, Option, Some, None, min, max, arith}
 use Rattle.std.proofs.lemmas.List.{take_more, map-append}
 use Rattle.std.specs.List.{list_any}
 use Rattle.iris_xpath.specs.declared.expression.Part.{Part}
@@ -37,17 +37,6 @@ capped_both a b = rw (min_plus a.operands b.operands tally.most, min_max a.path 
 -- the cap of two together
 pub both_capped : (a b x y t : Tally) → a ≡ tally.capped x → b ≡ tally.capped y → t ≡ tally.capped (tally.both a b) → t ≡ tally.capped (tally.both x y)
 both_capped a b x y t h k j = j ∙ rw (h, k) (capped_both x y)
-
-min_one : (a m : ℕ) → 0 < m → min (min a m + 1) m ≡ min (a + 1) m
-min_one a m h = omega (arith, h)
-
-min_twice : (a m : ℕ) → min (min a m) m ≡ min a m
-min_twice a m = omega arith
-
--- the cap of a path
-pub capped_path : (t : Tally) (len : ℕ) (counted : Bool) → tally.capped (tally.path_of (tally.capped t) (min len tally.most) counted) ≡ tally.capped (tally.path_of t len counted)
-capped_path t len true = let p : 0 < tally.most = omega arith in rw (min_one t.operands tally.most p, min_one t.depth tally.most p, min_max t.path len tally.most) refl
-capped_path t len false = let p : 0 < tally.most = omega arith in rw (min_one t.operands tally.most p, min_twice t.depth tally.most, min_max t.path len tally.most) refl
 
 -- one element more
 pub joined_more : {X : Type 0} (f : X → Tally) (xs : List X) (i : ℕ) (x : X) (t r s : Tally) → i < length xs → x ≡ get_or xs i x → t ≡ tally.capped (tally.joined tally.nothing (map f (take i xs))) → r ≡ tally.capped (f x) → s ≡ tally.capped (tally.both t r) → s ≡ tally.capped (tally.joined tally.nothing (map f (take (i + 1) xs)))

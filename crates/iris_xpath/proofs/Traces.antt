@@ -201,9 +201,6 @@ zero_le d = omega arith
 suc_le : (k d : ℕ) → suc k ≤ max d (suc k)
 suc_le k d = omega arith
 
-le_suc : (k d : ℕ) → suc k ≤ d → k ≤ d
-le_suc k d h = omega (arith, h)
-
 -- a byte that opens a parenthesis
 opens : (n : List ℕ → NameTest) (d : ℕ) (u : List ℕ) (r : Option Configuration) (y : Configuration) → r ≡ Some y → on n d u r ≡ trace n y (max d (parens_at y)) u
 opens n d u r y e = ap (on n d u) e
