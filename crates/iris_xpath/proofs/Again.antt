@@ -1,13 +1,12 @@
 -- What is read prints to a text that is read as the same query: for each tree as written there is one that is
 -- written as its query prints.
-use Rattle.std.proofs.Common.{◌≡◌, ℕ, suc, max, ◌≤◌, false, true, List, [], ◌∷◌, ◌++◌, refl, ap, sym, ◌∙◌, subst, arith, append_assoc, append-nil, map, length, codes, Option, Some, None, Bool, if◌then◌else◌, nat_lt, Result}
+use Rattle.std.proofs.Common.{◌≡◌, ℕ, suc, max, ◌≤◌, false, true, List, [], ◌∷◌, ◌++◌, refl, ap, sym, ◌∙◌, subst, arith, append_assoc, append-nil, map, length, codes, Option, Some, None, Bool, if◌then◌else◌, nat_lt}
 use Rattle.std.proofs.lemmas.Bool.Decides.{nat_tests}
-use Rattle.iris_xpath.specs.declared.error.QueryError.{QueryError}
 use Rattle.iris_xpath.specs.declared.error.QueryLimit.{QueryLimit}
 use Rattle.iris_xpath.specs.declared.error.QueryLimit.TheVariants as which
+use Rattle.iris_base.specs.declared.limits.TheConstants.{MAX_PARENTHESES, MAX_NESTING}
 use Rattle.iris_xpath.specs.Tally.{main_tally, excess, limit_behind}
-use Rattle.iris_xpath.specs.Told.{Found, Gives}
-use Rattle.iris_xpath.specs.Again.{IsRead, ReadsAgain}
+use Rattle.iris_xpath.specs.Again.{ReadsAgain}
 use Rattle.iris_xpath.proofs.Leads.{on_test}
 use Rattle.std.proofs.lemmas.List.{map-append}
 use Rattle.std.proofs.lemmas.List.Concat.{flat_map-append}
@@ -350,20 +349,19 @@ gate w v true c d f h = absurd (cc)
 gate w v false true d f h = absurd (let e : true ≡ false = f refl in cc)
 gate w v false false d f h = h
 
-fewer : (p r : ℕ) → p ≤ r → nat_lt 16 r ≡ false → nat_lt 16 p ≡ false
+fewer : (p r : ℕ) → p ≤ r → nat_lt MAX_PARENTHESES r ≡ false → nat_lt MAX_PARENTHESES p ≡ false
 fewer p r h e = grind (arith, nat_tests)
 
 behind_fewer : (o : Option QueryLimit) (q : Syntax) (p r : ℕ) → p ≤ r → limit_behind o q r ≡ None → limit_behind o q p ≡ None
 behind_fewer (Some w) q p r h e = e
-behind_fewer None q p r h e = gate which.Parens which.Depth (nat_lt 16 r) (nat_lt 16 p) (nat_lt 4 (main_tally q).depth) (fewer p r h) e
+behind_fewer None q p r h e = gate which.Parens which.Depth (nat_lt MAX_PARENTHESES r) (nat_lt MAX_PARENTHESES p) (nat_lt MAX_NESTING (main_tally q).depth) (fewer p r h) e
 
+-- what a word tests prints as the word
 pub keeps : (kinds : List (List ℕ)) → Keeps (named kinds)
 keeps kinds w = on_test (λ (t : NameTest). test_shown t ≡ w) (has kinds w) _ _ (λ _. refl) (λ _. refl)
 
+-- a query that was read prints to a text that is read as it
 pub reads_again : (q : Syntax) → ReadsAgain q
 reads_again q kinds f =
     let a = again (named kinds) (keeps kinds) f.0 q f.1.1.0 f.1.1.1 in
     ((a.0, a.1), λ l. (l, (a.0, a.1, behind_fewer (excess q) q (parens_of a.0) (parens_of f.1.1.0) a.2 f.1.1.2)))
-
-pub gives_again : (kinds : List (List ℕ)) (q : Syntax) (text : List ℕ) (result : Result Syntax QueryError) → text ≡ printed q → ((v : Syntax) → Found (named kinds) text v → Gives v result) → IsRead (named kinds) q → length (printed q) ≤ 4096 → Gives q result
-gives_again kinds q text result e exact r l = exact q (subst (λ (z : List ℕ). Found (named kinds) z q) (sym e) ((reads_again q kinds r).1 l))

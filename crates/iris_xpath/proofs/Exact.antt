@@ -23,17 +23,21 @@ passes_none n k text q m w s l p =
     let g : Some w ≡ None = sym p.1.2 ∙ ap (λ (x : Syntax). limit_of x (parens_of p.1.0)) e ∙ ap (limit_of q) f ∙ l in
     absurd (cc)
 
+-- a text that is refused spells no query within the limits
 pub refused_gives : (n : List ℕ → NameTest) → Knows n → (text : List ℕ) (e : QueryError) → Refused n text e → (q : Syntax) → Found n text q → Gives q (Err e)
 refused_gives n k text (errors.Syntax p) h q f = judged_refuses n text p q h.0 (f.1.0, f.1.1)
 refused_gives n k text (errors.Outside p what) h q f = judged_refuses n text p q h.0 (f.1.0, f.1.1)
 refused_gives n k text (errors.TooLarge w) h q f = absurd h
 refused_gives n k text errors.Memory h q f = tt
 
+-- nor does one that passes a limit
 pub over_gives : (n : List ℕ → NameTest) → Knows n → (text : List ℕ) (steps : Syntax) (parens : ℕ) (w : QueryLimit) → (m : Main) × Spells n text steps m × (parens ≡ parens_of m) → Some w ≡ limit_of steps parens → (q : Syntax) → Found n text q → ⊥
 over_gives n k text steps parens w r l q f = passes_none n k text q f.1.0 w f.1.1 f.1.2 (steps, (r.0, r.1, ap (limit_of steps) (sym r.2) ∙ sym l))
 
+-- the steps that are read are those of any query that the text spells
 pub same_gives : (n : List ℕ → NameTest) → Knows n → (text : List ℕ) (steps : Syntax) (parens : ℕ) → (m : Main) × Spells n text steps m × (parens ≡ parens_of m) → (q : Syntax) → Found n text q → steps ≡ q
 same_gives n k text steps parens r q f = one_query n k text steps q (r.0, r.1) (f.1.0, f.1.1)
 
+-- a text spells one query at most
 pub reads_once : (kinds : List (List ℕ)) (text : List ℕ) (p q : Syntax) → Reads (named kinds) text p → Reads (named kinds) text q → p ≡ q
 reads_once kinds text p q r s = one_query (named kinds) (knows kinds) text p q r s

@@ -134,5 +134,6 @@ place_high n (states.Link links.O e l) fs b i h = rw h.k114 refl
 place_high n (states.Link links.And e l) fs b i h = rw h.word_ (unit_high (record { ors = l.ors; ands = add_and l.ands e }) fs b h)
 place_high n (states.Link links.Or e l) fs b i h = rw h.word_ (unit_high (record { ors = add_or l.ors (joined_and l.ands e); ands = [] }) fs b h)
 
+-- outside a literal no query goes on with a byte that is not ASCII
 pub high_stops : (n : List ℕ → NameTest) (p : State) (fs : List Frame) (b : ℕ) → IsBytewise p → 128 ≤ b → next n (at p fs) b ≡ None
 high_stops n p fs b i h = place_high n p fs b i (high_is b h)

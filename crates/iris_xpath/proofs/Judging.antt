@@ -44,12 +44,15 @@ only_some (Some t) = refl
 pub run_byte : (n : List ℕ → NameTest) (front : List ℕ) (s : Configuration) (b : ℕ) → run n start front ≡ Some s → run n start (front ++ b ∷ []) ≡ next n s b
 run_byte n front s b h = run_more n (b ∷ []) front start s h ∙ only_some (next n s b)
 
+-- where the rest begins
 pub seam : (text front rest : List ℕ) → text ≡ front ++ rest → (length text - length rest ≡ length front) × (take (length front) text ≡ front)
 seam text front rest e = (let l = length-append front rest in rw e (omega (arith, l)), rw e (take-append_seam front rest))
 
+-- the front and one byte
 pub take_one : (front z : List ℕ) (b : ℕ) → take (length front + 1) (front ++ b ∷ z) ≡ front ++ b ∷ []
 take_one front z b = take-append-add front (b ∷ z) 1
 
+-- a byte at which the machine stops
 pub judged_stop : (n : List ℕ → NameTest) → Tells n → Knows n → (text front z : List ℕ) (s : Configuration) (b : ℕ) → text ≡ front ++ b ∷ z → run n start front ≡ Some s → next n s b ≡ None → Judged n text (length front)
 judged_stop n t k text front z s b e h stop =
     let l = length-append front (b ∷ z) in
@@ -60,6 +63,7 @@ judged_stop n t k text front z s b e h stop =
       λ q. absurd (omega (arith, i, q)),
     )
 
+-- an end at which nothing is accepted
 pub judged_end : (n : List ℕ → NameTest) → Tells n → Knows n → (text : List ℕ) (s : Configuration) → run n start text ≡ Some s → accept n s ≡ None → Judged n text (length text)
 judged_end n t k text s h a = (
   omega arith,
@@ -95,11 +99,13 @@ literal_open : (n : List ℕ → NameTest) (q : ℕ) (v : List ℕ) (side : Side
 literal_open n q [] side fs h = (_, refl, refl)
 literal_open n q (b ∷ v) side fs h = (inside q (b ∷ v) side fs, rw (free_head q b v h) (inside_run n q v (b ∷ []) side fs (free_tail q b v h)), refl)
 
+-- an end inside a literal
 pub judged_open : (n : List ℕ → NameTest) → Tells n → Knows n → (text front rest : List ℕ) (q : ℕ) (side : Side) (fs : List Frame) → text ≡ front ++ rest → run n start front ≡ Some (at (states.InLiteral q side) fs) → IsFree q rest → Judged n text (length text)
 judged_open n t k text front rest q side fs e h f =
     let s = literal_open n q rest side fs f in
     judged_end n t k text s.0 (ap (run n start) e ∙ run_more n rest front start (at (states.InLiteral q side) fs) h ∙ s.1) s.2
 
+-- a quote is `'` or `"`
 pub other_quote : (q : ℕ) → is_quote q ≡ true → q ≢ 39 → q ≡ 34
 other_quote q h k = grind (arith, nat_tests)
 
@@ -167,23 +173,24 @@ quoted n (w_right a (cmp_blank c b) B) h = tt
 quoted n (w_group g B) h = tt
 quoted n (w_link l t B) h = tt
 
+-- what a literal stands in is a quote
 pub quote_kept : (n : List ℕ → NameTest) → Tells n → (text rest : List ℕ) (q : ℕ) (side : Side) (fs : List Frame) → Reached n text (states.InLiteral q side) fs rest → is_quote q ≡ true
 quote_kept n t text rest q side fs r = let w = written_at n t r.0 (at (states.InLiteral q side) fs) r.2 in subst IsQuoted w.1 (quoted n w.0 w.3)
 
 -- ---- the steps of the reader
 
+-- one byte further
 pub reached_byte : (n : List ℕ → NameTest) (text : List ℕ) (p q : State) (fs gs : List Frame) (rest after : List ℕ) (b : ℕ) → Reached n text p fs rest → rest ≡ b ∷ after → next n (at p fs) b ≡ Some (at q gs) → Reached n text q gs after
 reached_byte n text p q fs gs rest after b r e h =
     (r.0 ++ b ∷ [], r.1 ∙ ap (λ (v : List ℕ). r.0 ++ v) e ∙ sym (append_assoc r.0 (b ∷ []) after), run_byte n r.0 (at p fs) b r.2 ∙ h)
 
+-- a whole literal further
 pub reached_literal : (n : List ℕ → NameTest) (text : List ℕ) (q : ℕ) (side : Side) (fs : List Frame) (rest v after : List ℕ) → Reached n text (states.InLiteral q side) fs rest → rest ≡ v ++ q ∷ after → IsFree q v → Reached n text (states.AfterOperand (operands.Literal v) side) fs after
 reached_literal n text q side fs rest v after r e h =
     let a : text ≡ (r.0 ++ (v ++ q ∷ [])) ++ after = r.1 ∙ ap (λ (x : List ℕ). r.0 ++ x) e ∙ simp append_assoc in
     (r.0 ++ (v ++ q ∷ []), a, run_more n (v ++ q ∷ []) r.0 start (at (states.InLiteral q side) fs) r.2 ∙ literal_whole n q v side fs h)
 
-pub reached_start : (n : List ℕ → NameTest) (text : List ℕ) → Reached n text states.Start [] text
-reached_start n text = ([], refl, refl)
-
+-- a state at which the reader stops
 pub stop_at : (n : List ℕ → NameTest) → Tells n → Knows n → (text : List ℕ) (p : State) (fs : List Frame) (rest : List ℕ) → Reached n text p fs rest → rest ≢ [] → ((b : ℕ) (z : List ℕ) → rest ≡ b ∷ z → next n (at p fs) b ≡ None) → Judged n text (length text - length rest)
 stop_at n t k text p fs [] r s h = absurd (s refl)
 stop_at n t k text p fs (b ∷ z) r s h = subst (Judged n text) (sym (seam text r.0 (b ∷ z) r.1).0) (judged_stop n t k text r.0 z (at p fs) b r.1 r.2 (h b z refl))
@@ -213,35 +220,43 @@ what_reached n text p fs rest r =
     let d : drop (length text - length rest) text ≡ rest = ap (λ (k : ℕ). drop k text) i ∙ ap (drop (length r.0)) r.1 ∙ drop_front r.0 rest in
     ap (λ (x : Option Configuration). what_in x (last_byte (take (length text - length rest) text)) (drop (length text - length rest) text)) (ap (run n start) t ∙ r.2) ∙ ap (what_at (last_of p) (last_byte (take (length text - length rest) text))) d
 
+-- nothing stands at the end of the text
 pub refused_end : (n : List ℕ → NameTest) (text : List ℕ) → Judged n text (length text) → Judged n text (length text) × (what_there n text (length text) ≡ None)
 refused_end n text j = (j, what_at_end n text)
 
+-- what a refusal tells is so
 pub refused_at : (n : List ℕ → NameTest) (text : List ℕ) (e : QueryError) (i : ℕ) (w : Option OutsidePart) → IsAt e i w → what_there n text i ≡ w → Judged n text i → Refused n text e
 refused_at n text (errors.Syntax p) i w a h j = subst (λ (k : ℕ). Judged n text k × (what_there n text k ≡ None)) (sym a.0) (j, h ∙ a.1)
 refused_at n text (errors.Outside p what) i w a h j = subst (λ (k : ℕ). Judged n text k × (what_there n text k ≡ Some what)) (sym a.0) (j, h ∙ a.1)
 refused_at n text (errors.TooLarge which) i w a h j = absurd a
 refused_at n text errors.Memory i w a h j = tt
 
+-- the rest is no longer than the text
 pub rest_within : (text front rest : List ℕ) → text ≡ front ++ rest → length rest ≤ length text
 rest_within text front rest e = let l = length-append front rest in rw e (omega (arith, l))
 
+-- the whole text was run
 pub reached_end : (n : List ℕ → NameTest) (text : List ℕ) (p : State) (fs : List Frame) (rest : List ℕ) → Reached n text p fs rest → rest ≡ [] → run n start text ≡ Some (at p fs)
 reached_end n text p fs rest r e = ap (run n start) (r.1 ∙ ap (λ (x : List ℕ). r.0 ++ x) e ∙ append-nil r.0) ∙ r.2
 
+-- what is accepted at the end is read
 pub read_end : (n : List ℕ → NameTest) → Tells n → (text : List ℕ) (p : State) (fs : List Frame) (rest : List ℕ) (q : Syntax) → Reached n text p fs rest → rest ≡ [] → Some q ≡ accept n (at p fs) → Reads n text q
 read_end n t text p fs rest q r e a = run_read n t text (at p fs) q (reached_end n text p fs rest r e) (sym a)
 
+-- nothing is accepted at the end
 pub stop_end : (n : List ℕ → NameTest) → Tells n → Knows n → (text : List ℕ) (p : State) (fs : List Frame) (rest : List ℕ) → Reached n text p fs rest → rest ≡ [] → None ≡ accept n (at p fs) → Judged n text (length text)
 stop_end n t k text p fs rest r e a = judged_end n t k text (at p fs) (reached_end n text p fs rest r e) (sym a)
 
 -- ---- a refused text is no spelling
 
+-- a text that is judged bad spells no query
 pub judged_refuses : (n : List ℕ → NameTest) (text : List ℕ) (p : ℕ) (q : Syntax) → Judged n text p → Reads n text q → ⊥
 judged_refuses n text p q j r =
     let below : p < length text → ⊥ = λ l. j.2 l (drop (p + 1) text, q, subst (λ (v : List ℕ). Reads n v q) (sym (take-append-drop (p + 1) text)) r) in
     let there : p ≡ length text → ⊥ = λ e. j.3 e q r in
     elim (cases_lt p (length text)) [ inl l ↦ below l | inr g ↦ there (omega (arith, g, j.0)) ]
 
+-- a text spells one query at most
 pub one_query : (n : List ℕ → NameTest) → Knows n → (text : List ℕ) (q r : Syntax) → Reads n text q → Reads n text r → q ≡ r
 one_query n k text q r h i =
     let x = reads_run n k text q h in let y = reads_run n k text r i in
@@ -251,11 +266,13 @@ one_query n k text q r h i =
 
 -- ---- what the code's next state says of the machine
 
+-- the byte led on
 pub turned_some : (r : Option Configuration) (p : State) (fs : List Frame) → Turned r (Some p) fs → r ≡ Some (at p fs)
 turned_some None p fs h = absurd (cc)
 turned_some (Some (at q gs)) p fs h = (let a : p ≡ q = (let k = h.0 in cc) in rw (a, h.1) refl)
 turned_some (Some (inside q v side gs)) p fs h = absurd h
 
+-- the byte led nowhere
 pub turned_none : (r : Option Configuration) (fs : List Frame) → Turned r None fs → r ≡ None
 turned_none None fs h = refl
 turned_none (Some (at q gs)) fs h = absurd (let k = h.0 in cc)
@@ -264,29 +281,36 @@ turned_none (Some (inside q v side gs)) fs h = absurd h
 same_front : (b c : ℕ) (x z : List ℕ) → b ∷ x ≡ c ∷ z → b ≡ c
 same_front b c x z h = cc
 
+-- the byte at the front leads nowhere
 pub goes_stop : (n : List ℕ → NameTest) (s : Configuration) (text x : List ℕ) (b : ℕ) (fs : List Frame) → text ≡ b ∷ x → Turned (next n s b) None fs → (c : ℕ) (z : List ℕ) → text ≡ c ∷ z → next n s c ≡ None
 goes_stop n s text x b fs e h c z k = subst (λ (d : ℕ). next n s d ≡ None) (same_front b c x z (sym e ∙ k)) (turned_none (next n s b) fs h)
 
+-- nor does one that is not ASCII
 pub goes_high : (n : List ℕ → NameTest) (p : State) (fs : List Frame) (text : List ℕ) → IsBytewise p → ((b : ℕ) (z : List ℕ) → b < 128 → text ≡ b ∷ z → ⊥) → (b : ℕ) (z : List ℕ) → text ≡ b ∷ z → next n (at p fs) b ≡ None
 goes_high n p fs text i h b z e = elim (cases_lt b 128) [ inl l ↦ absurd (h b z l e) | inr g ↦ high_stops n p fs b i g ]
 
 -- ---- a turn of the loop
 
+-- a whole literal further, as the reader tells it
 pub literal_step : (n : List ℕ → NameTest) (text : List ℕ) (q : ℕ) (side : Side) (fs : List Frame) (rest after : List ℕ) (p : State) → Reached n text (states.InLiteral q side) fs rest
     → ((v : List ℕ) × (rest ≡ v ++ q ∷ after) × IsFree q v × (p ≡ states.AfterOperand (operands.Literal v) side)) → Reached n text p fs after
 literal_step n text q side fs rest after p r h = subst (λ (x : State). Reached n text x fs after) (sym h.3) (reached_literal n text q side fs rest h.0 after r h.1 h.2)
 
+-- one byte further, as the reader tells it
 pub byte_step : (n : List ℕ → NameTest) (text : List ℕ) (p q r : State) (fs gs : List Frame) (rest after : List ℕ) → Reached n text p fs rest → q ≡ p → ((b : ℕ) × (rest ≡ b ∷ after) × (next n (at q fs) b ≡ Some (at r gs))) → Reached n text r gs after
 byte_step n text p q r fs gs rest after h e k = reached_byte n text q r fs gs rest after k.0 (subst (λ (x : State). Reached n text x fs rest) (sym e) h) k.1 k.2
 
+-- a byte less is left
 pub shorter_byte : (rest after : List ℕ) (b : ℕ) → rest ≡ b ∷ after → length after < length rest
 shorter_byte rest after b e = rw e (omega arith)
 
+-- a byte at which the reader stops, and why
 pub byte_stop : (n : List ℕ → NameTest) → Tells n → Knows n → (text : List ℕ) (p : State) (fs : List Frame) (rest : List ℕ) (error : QueryError) (last : Last) → Reached n text p fs rest → rest ≢ [] → ((b : ℕ) (z : List ℕ) → rest ≡ b ∷ z → next n (at p fs) b ≡ None) → last ≡ last_of p
     → IsAt error (length text - length rest) (what_at last (last_byte (take (length text - length rest) text)) rest) → Refused n text error
 byte_stop n t k text p fs rest error last r s h l a =
     refused_at n text error (length text - length rest) _ a (what_reached n text p fs rest r ∙ ap (λ (x : Last). what_at x (last_byte (take (length text - length rest) text)) rest) (sym l)) (stop_at n t k text p fs rest r s h)
 
+-- a text of no byte
 pub empty_is : (v : List ℕ) → true ≡ (length v == 0) → v ≡ []
 empty_is [] h = refl
 empty_is (b ∷ v) h = absurd (let k : (length (b ∷ v) == 0) ≡ false = grind (arith, nat_tests) in let e : true ≡ false = h ∙ k in cc)
@@ -311,6 +335,7 @@ pair_state s t d e h = (ap (state_in s) h, ap (number_in d) h)
 some_pair : (t : Configuration) (e : ℕ) → ◌≡◌ {A = Option (Configuration × ℕ)} (Some (t, e)) None → ⊥
 some_pair t e h = absurd (cc)
 
+-- a trace goes on from where it ended
 pub trace_more : (n : List ℕ → NameTest) (v bs : List ℕ) (s t : Configuration) (d e : ℕ) → trace n s d bs ≡ Some (t, e) → trace n s d (bs ++ v) ≡ trace n t e v
 trace_more n v [] s t d e h = let p = pair_state s t d e h in rw (p.0, p.1) refl
 trace_more n v (b ∷ bs) s t d e h = trace_on n v bs (next n s b) d (Some (t, e)) (trace n t e v) (λ x k. trace_more n v bs x t (max d (parens_at x)) e k) (some_pair t e) h
@@ -318,6 +343,7 @@ trace_more n v (b ∷ bs) s t d e h = trace_on n v bs (next n s b) d (Some (t, e
 trace_one : (n : List ℕ → NameTest) (s t : Configuration) (b d : ℕ) → next n s b ≡ Some t → trace n s d (b ∷ []) ≡ Some (t, max d (parens_at t))
 trace_one n s t b d h = rw h refl
 
+-- one byte further, with its parentheses
 pub traced_byte : (n : List ℕ → NameTest) (text : List ℕ) (p q : State) (fs gs : List Frame) (rest after : List ℕ) (d : ℕ) → Traced n text p fs rest d → ((b : ℕ) × (rest ≡ b ∷ after) × (next n (at p fs) b ≡ Some (at q gs))) → Traced n text q gs after (max d (parens_in gs))
 traced_byte n text p q fs gs rest after d r k =
     (r.0 ++ k.0 ∷ [], r.1 ∙ ap (λ (v : List ℕ). r.0 ++ v) k.1 ∙ sym (append_assoc r.0 (k.0 ∷ []) after), trace_more n (k.0 ∷ []) r.0 start (at p fs) 0 d r.2 ∙ trace_one n (at p fs) (at q gs) k.0 d k.2)
@@ -333,20 +359,20 @@ literal_traced : (n : List ℕ → NameTest) (q : ℕ) (v : List ℕ) (side : Si
 literal_traced n q [] side fs d h = rw (same_byte q) refl
 literal_traced n q (b ∷ v) side fs d h = rw (free_head q b v h) (inside_trace n q v (b ∷ []) side fs d (free_tail q b v h))
 
+-- a whole literal further, with no more parentheses
 pub traced_literal : (n : List ℕ → NameTest) (text : List ℕ) (q : ℕ) (side : Side) (fs : List Frame) (rest after : List ℕ) (p : State) (d : ℕ) → Traced n text (states.InLiteral q side) fs rest d
     → ((v : List ℕ) × (rest ≡ v ++ q ∷ after) × IsFree q v × (p ≡ states.AfterOperand (operands.Literal v) side)) → Traced n text p fs after (max d (parens_in fs))
 traced_literal n text q side fs rest after p d r h =
     let a : text ≡ (r.0 ++ (h.0 ++ q ∷ [])) ++ after = r.1 ∙ ap (λ (x : List ℕ). r.0 ++ x) h.1 ∙ simp append_assoc in
     (r.0 ++ (h.0 ++ q ∷ []), a, trace_more n (h.0 ++ q ∷ []) r.0 start (at (states.InLiteral q side) fs) 0 d r.2 ∙ literal_traced n q h.0 side fs d h.2 ∙ ap (λ (x : State). Some (at x fs, max d (parens_in fs))) (sym h.3))
 
-pub traced_start : (n : List ℕ → NameTest) (text : List ℕ) → Traced n text states.Start [] text 0
-traced_start n text = ([], refl, refl)
-
+-- the steps at the end, and their parentheses
 pub found_end : (n : List ℕ → NameTest) → Tells n → Knows n → (text : List ℕ) (p : State) (fs : List Frame) (rest : List ℕ) (q : Syntax) (d : ℕ) → Reached n text p fs rest → Traced n text p fs rest d → rest ≡ [] → Some q ≡ accept n (at p fs) → (m : Main) × Spells n text q m × (d ≡ parens_of m)
 found_end n t k text p fs rest q d r s e a =
     let m = read_end n t text p fs rest q r e a in
     let x : trace n start 0 text ≡ Some (at p fs, d) = ap (trace n start 0) (s.1 ∙ ap (λ (v : List ℕ). s.0 ++ v) e ∙ append-nil s.0) ∙ s.2 in
     (m.0, m.1, (pair_state (at p fs) (main_state n m.0) d (parens_of m.0) (sym x ∙ spells_trace n k text q m.0 m.1)).1)
 
+-- all spellings of a text have as many parentheses
 pub same_parens : (n : List ℕ → NameTest) → Knows n → (text : List ℕ) (q r : Syntax) (m w : Main) → Spells n text q m → Spells n text r w → parens_of m ≡ parens_of w
 same_parens n k text q r m w a b = (pair_state (main_state n m) (main_state n w) (parens_of m) (parens_of w) (sym (spells_trace n k text q m a) ∙ spells_trace n k text r w b)).1

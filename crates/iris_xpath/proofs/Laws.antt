@@ -21,6 +21,7 @@ use Rattle.iris_xpath.proofs.Leads.{Leads, leads, Tells}
 
 -- ---- what is accepted is read
 
+-- a list with an element is not empty
 pub not_nil : {X : Type 0} (xs : List X) (x : X) → xs ++ x ∷ [] ≢ []
 not_nil [] x h = absurd (cc)
 not_nil (y ∷ xs) x h = absurd (cc)
@@ -28,6 +29,7 @@ not_nil (y ∷ xs) x h = absurd (cc)
 last_read : (n : List ℕ → NameTest) (t : Tested) (m : Main) (s : Sep) → GoodTested t → GoodMain m → GoodSep s → Reads n ((main_text m ++ sep_text s) ++ tested_text t) (main_tree n m ++ tested_tree n (sep_tree s) t ∷ [])
 last_read n t m s gt gm gs = (step m s t, record { some = not_nil (main_tree n m) (tested_tree n (sep_tree s) t); good = (gm, gs, gt); spelled = append_assoc (main_text m) (sep_text s) (tested_text t); tree = refl })
 
+-- what is accepted is read
 pub accepted : (n : List ℕ → NameTest) (w : Written) → Good w → IfSome (accept n (shape n w)) (λ q. Reads n (written w) q)
 accepted n (w_tested (word a w) (in_main m s)) h = last_read n (word a w) m s h.0 h.1.0 h.1.1
 accepted n (w_tested star (in_main m s)) h = last_read n star m s h.0 h.1.0 h.1.1
@@ -71,6 +73,7 @@ accepted n (w_link l t B) h = tt
 
 -- ---- from byte to byte
 
+-- some bytes stop the machine, or lead to what was written with them
 abbrev pub Leads_all : (List ℕ → NameTest) → List ℕ → Option Configuration → Type 0
 Leads_all n text r = IfSome r (λ t. (w : Written) × (shape n w ≡ t) × (written w ≡ text) × Good w)
 
@@ -83,6 +86,7 @@ one_byte n text b bs (Some t) h f =
     let e : written h.0 ++ bs ≡ text ++ b ∷ bs = ap (λ (v : List ℕ). v ++ bs) h.2 ∙ append_assoc text (b ∷ []) bs in
     same_text n _ _ (run n t bs) e (subst (λ (x : Configuration). Leads_all n (written h.0 ++ bs) (run n x bs)) h.1 (f h.0 h.3))
 
+-- so it is for any bytes
 pub run_leads : (n : List ℕ → NameTest) → Tells n → (bs : List ℕ) (w : Written) → Good w → Leads_all n (written w ++ bs) (run n (shape n w) bs)
 run_leads n k [] w g = (w, refl, sym (append-nil (written w)), g)
 run_leads n k (b ∷ bs) w g = one_byte n (written w) b bs (next n (shape n w) b) (leads n k w b g) (run_leads n k bs)
@@ -105,6 +109,7 @@ run_read n k text s q e a =
 
 -- ---- each state is completed
 
+-- these bytes complete a query
 abbrev pub Ends : (List ℕ → NameTest) → Configuration → List ℕ → Type 0
 Ends n s bs = (t : Configuration) × (q : Syntax) × (run n s bs ≡ Some t) × (accept n t ≡ Some q)
 
@@ -153,6 +158,7 @@ operand_ends : (n : List ℕ → NameTest) (o : Operand Expression) (h : Hand) �
 operand_ends n o (left (before op x a)) = part_ends n _ _ (Some _) _ op
 operand_ends n o (right l c (before op x a)) = part_ends n _ _ None _ op
 
+-- what completes `and` or `or`
 abbrev pub ends_link : Link → List ℕ → List ℕ
 ends_link links.A bs = 110 ∷ 100 ∷ 32 ∷ 97 ∷ 32 ∷ bs
 ends_link links.An bs = 100 ∷ 32 ∷ 97 ∷ 32 ∷ bs
@@ -192,6 +198,7 @@ quote_closes : (n : List ℕ → NameTest) (q : ℕ) (v : Row) (h : Hand) → En
 quote_closes n q none h = rw (same_byte q) (operand_ends n _ h)
 quote_closes n q (more v b) h = rw (same_byte q) (operand_ends n _ h)
 
+-- each state has a completion
 pub completes : (n : List ℕ → NameTest) (w : Written) → Ends n (shape n w) (completion w)
 completes n (w_start g) = (_, _, refl, refl)
 completes n (w_main_sep m slash) = (_, _, refl, refl)
@@ -238,6 +245,7 @@ then_run : (n : List ℕ → NameTest) (v bs : List ℕ) (r : Option Configurati
 then_run n v bs None u f h = absurd (cc)
 then_run n v bs (Some t) u f h = f t h
 
+-- a run goes on from where it ended
 pub run_more : (n : List ℕ → NameTest) (v bs : List ℕ) (s u : Configuration) → run n s bs ≡ Some u → run n s (bs ++ v) ≡ run n u v
 run_more n v [] s u h = let e : s ≡ u = cc in ap (λ (x : Configuration). run n x v) e
 run_more n v (b ∷ bs) s u h = then_run n v bs (next n s b) u (λ t k. run_more n v bs t u k) h
@@ -246,6 +254,7 @@ then_none : (n : List ℕ → NameTest) (v bs : List ℕ) (r : Option Configurat
 then_none n v bs None f h = refl
 then_none n v bs (Some t) f h = f t h
 
+-- a run that stopped goes nowhere
 pub run_none : (n : List ℕ → NameTest) (v bs : List ℕ) (s : Configuration) → run n s bs ≡ None → run n s (bs ++ v) ≡ None
 run_none n v [] s h = absurd (cc)
 run_none n v (b ∷ bs) s h = then_none n v bs (next n s b) (λ t k. run_none n v bs t k) h

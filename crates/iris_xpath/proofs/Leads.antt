@@ -25,13 +25,16 @@ use Rattle.iris_xpath.proofs.Written.{OrFore, no_or, after_or, AndFore, no_and, 
 
 -- ---- tests of bytes
 
+-- both cases of a test
 pub on_test : {X : Type 0} (P : X → Type 0) (t : Bool) (x y : X) → (t ≡ true → P x) → (t ≡ false → P y) → P (cond t x y)
 on_test P true x y f g = f refl
 on_test P false x y f g = g refl
 
+-- a byte is the one that it equals
 pub is_byte : (b k : ℕ) → (b == k) ≡ true → b ≡ k
 is_byte b k h = grind (arith, nat_tests)
 
+-- a letter may stand in a word
 pub letter_word : (b : ℕ) → is_letter b ≡ true → is_word_byte b ≡ true
 letter_word b h = rw h refl
 
@@ -39,13 +42,16 @@ or_true : (x : Bool) → (x || true) ≡ true
 or_true true = refl
 or_true false = refl
 
+-- so may a digit
 pub digit_word : (b : ℕ) → is_digit b ≡ true → is_word_byte b ≡ true
 digit_word b h = rw (h, or_true (is_letter b)) refl
 
+-- a conjunction with what is false
 pub and_false : (x : Bool) → (x && false) ≡ false
 and_false true = refl
 and_false false = refl
 
+-- what begins with no word may follow anything
 pub room_false : (B : Before) → Room B false
 room_false (before op o a) = and_false (tight o a)
 
@@ -56,6 +62,7 @@ ends_not false b h k = refl
 
 -- ---- what a byte leads to, after a text
 
+-- a byte stops the machine, or leads to what was written with it
 abbrev pub Leads : (List ℕ → NameTest) → List ℕ → ℕ → Option Configuration → Type 0
 Leads n text b r = IfSome r (λ t. (w : Written) × (shape n w ≡ t) × (written w ≡ text ++ b ∷ []) × Good w)
 
@@ -68,6 +75,7 @@ hand_room_false (right a c B) s r = r
 same_room : (h : Hand) (s t : Bool) → s ≡ t → HandRoom h s → HandRoom h t
 same_room h s t e r = subst (λ (x : Bool). HandRoom h x) e r
 
+-- a step that begins alike may stand there too
 pub room_same : (s : Stand) (t u : Tested) → starts_tested t ≡ starts_tested u → StandRoom s t → StandRoom s u
 room_same (in_main m p) t u e r = tt
 room_same (in_path no_fore h) t u e r = same_room h _ _ e r
@@ -121,11 +129,6 @@ leads_begin : (n : List ℕ → NameTest) (B : Before) (b : ℕ) (text : List �
 leads_begin n B b text e g r = on_test (Leads n text b) (b == 40) _ _ (λ k. (w_unit (before (paren B none) no_or no_and), refl, rw (is_byte b 40 k, e) (append-nil (before_text B ++ 40 ∷ [])), (((g, tt), tt, tt), refl)))
     (λ _. leads_operand n (left B) b text e g r)
 
-abbrev blank_opening : Opening → ℕ → Opening
-blank_opening (bracket t s g) b = bracket t s (more g b)
-blank_opening (paren B g) b = paren B (more g b)
-blank_opening (not_paren t B g) b = not_paren t B (more g b)
-
 leads_gap : (n : List ℕ → NameTest) (B : Before) (b : ℕ) (text : List ℕ) → is_blank b ≡ true → text ≡ before_text B → GoodBefore B → Leads n text b (Some (at (states.Unit (level n B)) (frames_before n B)))
 leads_gap n (before op o (after_and a g)) b text k e h = (w_unit (before op o (after_and a (more g b))), refl, rw e (simp append_assoc), ((h.0, h.1, (h.2.0, h.2.1, h.2.2, (h.2.3, k))), refl))
 leads_gap n (before op (after_or o g) no_and) b text k e h = (w_unit (before op (after_or o (more g b)) no_and), refl, rw e (simp (append_assoc, append-nil)), ((h.0, (h.1.0, h.1.1, (h.1.2, k)), tt), refl))
@@ -148,10 +151,12 @@ abbrev pub ands_with : AndFore → Term → Ands
 ands_with no_and t = one t
 ands_with (after_and a g) t = both a g t
 
+-- an `or` with its last part
 abbrev pub ors_with : OrFore → Ands → Ors
 ors_with no_or a = one_and a
 ors_with (after_or o g) a = either o g a
 
+-- its tree
 pub with_tree : (n : List ℕ → NameTest) (o : OrFore) (a : AndFore) (t : Term) → ors_tree n (ors_with o (ands_with a t)) ≡ joined_or (or_list n o) (joined_and (and_list n a) (term_tree n t))
 with_tree n no_or no_and t = refl
 with_tree n no_or (after_and a g) t = refl
@@ -302,9 +307,6 @@ leads_right : (n : List ℕ → NameTest) (a : Arg) (c : Cmp) (B : Before) (b : 
 leads_right n a c B b g = on_test (λ p. Leads n (written (w_right a c B)) b (below (frames_before n B) p)) (is_blank b) _ _ (λ k. (w_right a (cmp_blank c b) B, refl, simp append_assoc, (g.0, (g.1, k), g.2, g.3)))
     (λ _. leads_operand n (right a c B) b (before_text B ++ (arg_text a ++ cmp_text c)) refl (g.0, g.1, g.2) g.3)
 
-link_room : (B : Before) (t : Term) (b : ℕ) → Room B (starts_term t) → Room B (starts_term t)
-link_room B t b r = r
-
 abbrev and_before : Before → Term → Before
 and_before (before op o a) t = before op o (after_and (ands_with a t) none)
 
@@ -357,9 +359,7 @@ leads_or n t (before op o a) b g k =
 leads_letter : (n : List ℕ → NameTest) (l m : Link) (k : ℕ) (t : Term) (B : Before) (b : ℕ) → link_text m ≡ link_text l ++ k ∷ [] → Good (w_link l t B) → Leads n (before_text B ++ (term_text t ++ link_text l)) b (below (frames_before n B) (link_if (b == k) m (term_tree n t) (level n B)))
 leads_letter n l m k t B b e g = on_test (λ p. Leads n (written (w_link l t B)) b (below (frames_before n B) p)) (b == k) _ _ (λ h. (w_link m t B, refl, rw (is_byte b k h, e) (simp append_assoc), g)) (λ h. tt)
 
-room_dash : (e : Bool) (b : ℕ) → is_word_byte b ≡ false → (e && is_word_byte b) ≡ false
-room_dash e b h = rw h (and_false e)
-
+-- so it is in each state
 pub leads : (n : List ℕ → NameTest) → Tells n → (w : Written) (b : ℕ) → Good w → Leads n (written w) b (next n (shape n w) b)
 leads n k (w_start g) b h = on_test (λ p. Leads n (row g) b (below [] p)) (is_blank b) _ _ (λ q. (w_start (more g b), refl, refl, (h, q)))
     (λ _. on_test (λ p. Leads n (row g) b (below [] p)) (b == 47) _ _ (λ q. (w_main_sep (lead g) slash, refl, rw (is_byte b 47 q) refl, (h, tt))) (λ _. tt))

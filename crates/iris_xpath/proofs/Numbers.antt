@@ -16,6 +16,7 @@ use Rattle.iris_xpath.proofs.Digits.{value_end, small_more}
 use Rattle.iris_xpath.proofs.Leads.{on_test, is_byte}
 use Rattle.std.proofs.Math.Nat.{pow-le-pow_right}
 use Rattle.std.proofs.lemmas.Bool.Decides.{nat_tests}
+use Rattle.iris_base.specs.declared.limits.TheConstants.{MAX_DIGITS}
 
 -- a constant that is written as the operand prints
 pub record ConstOf (e : Operand Expression) : Type 0 where
@@ -107,34 +108,34 @@ value_small : (v i : ℕ) → v < 10 ^ i → (ds : List ℕ) → value_after v d
 value_small v i h [] = subst (λ (k : ℕ). v < 10 ^ k) (omega arith) h
 value_small v i h (b ∷ ds) = subst (λ (k : ℕ). value_after (v * 10 + digit_of b) ds < 10 ^ k) (omega arith) (value_small (v * 10 + digit_of b) (i + 1) (small_more v (digit_of b) i h (digit_small b)) ds)
 
-short : (m : ℕ) → m < 10 ^ 18 → (ds : List ℕ) → decimal m ≡ ds → nat_le (length ds) 18 ≡ false → ⊥
+short : (m : ℕ) → m < 10 ^ MAX_DIGITS → (ds : List ℕ) → decimal m ≡ ds → nat_le (length ds) MAX_DIGITS ≡ false → ⊥
 short m h ds e l =
-    let a : length (decimal m) ≤ 18 = length-decimal-le 18 m (omega arith) h (omega (arith, h)) in
-    let b : length ds ≤ 18 = subst (λ (x : List ℕ). length x ≤ 18) e a in
+    let a : length (decimal m) ≤ MAX_DIGITS = length-decimal-le MAX_DIGITS m (omega arith) h (omega (arith, h)) in
+    let b : length ds ≤ MAX_DIGITS = subst (λ (x : List ℕ). length x ≤ MAX_DIGITS) e a in
     grind (arith, nat_tests)
 
-longest_of : (m : ℕ) → m ≤ 10 ^ 18 → (m < 10 ^ 18 → ⊥) → 1000000000000000000 ≡ m
+longest_of : (m : ℕ) → m ≤ 10 ^ MAX_DIGITS → (m < 10 ^ MAX_DIGITS → ⊥) → 1000000000000000000 ≡ m
 longest_of m h k = grind arith
 
-longest : (m : ℕ) → m ≤ 10 ^ 18 → (ds : List ℕ) → decimal m ≡ ds → nat_le (length ds) 18 ≡ false → 1000000000000000000 ≡ m
+longest : (m : ℕ) → m ≤ 10 ^ MAX_DIGITS → (ds : List ℕ) → decimal m ≡ ds → nat_le (length ds) MAX_DIGITS ≡ false → 1000000000000000000 ≡ m
 longest m h ds e l = longest_of m h (λ k. short m k ds e l)
 
-few_digits : (ds : List ℕ) → nat_le (length ds) 18 ≡ true → value_of ds < 10 ^ 18
+few_digits : (ds : List ℕ) → nat_le (length ds) MAX_DIGITS ≡ true → value_of ds < 10 ^ MAX_DIGITS
 few_digits ds h =
-    let l : length ds ≤ 18 = grind (arith, nat_tests) in
+    let l : length ds ≤ MAX_DIGITS = grind (arith, nat_tests) in
     let a : value_of ds < 10 ^ (0 + length ds) = value_small 0 0 (omega arith) ds in
     let z : 0 < 10 = omega arith in
-    let y : 0 + length ds ≤ 18 = omega (arith, l) in
-    let q : 10 ^ (0 + length ds) ≤ 10 ^ 18 = pow-le-pow_right z y in
+    let y : 0 + length ds ≤ MAX_DIGITS = omega (arith, l) in
+    let q : 10 ^ (0 + length ds) ≤ 10 ^ MAX_DIGITS = pow-le-pow_right z y in
     omega (arith, a, q)
 
-natural_is : (m : ℕ) → m ≤ 10 ^ 18 → (d : Digits m (decimal m)) → number_of false (d.first ∷ row d.others) ≡ pos m
-natural_is m h d = on_test (λ (z : ℤ). z ≡ pos m) (nat_le (length (d.first ∷ row d.others)) 18) _ _ (λ _. ap pos d.value) (λ l. ap pos (longest m h (d.first ∷ row d.others) d.is l))
+natural_is : (m : ℕ) → m ≤ 10 ^ MAX_DIGITS → (d : Digits m (decimal m)) → number_of false (d.first ∷ row d.others) ≡ pos m
+natural_is m h d = on_test (λ (z : ℤ). z ≡ pos m) (nat_le (length (d.first ∷ row d.others)) MAX_DIGITS) _ _ (λ _. ap pos d.value) (λ l. ap pos (longest m h (d.first ∷ row d.others) d.is l))
 
-negative_is : (m : ℕ) → suc m < 10 ^ 18 → (d : Digits (suc m) (decimal (suc m))) → number_of true (d.first ∷ row d.others) ≡ negsuc m
-negative_is m h d = on_test (λ (z : ℤ). z ≡ negsuc m) (nat_le (length (d.first ∷ row d.others)) 18) _ _ (λ _. ap (λ (k : ℕ). neg_ℤ (pos k)) d.value) (λ l. absurd (short (suc m) h (d.first ∷ row d.others) d.is l))
+negative_is : (m : ℕ) → suc m < 10 ^ MAX_DIGITS → (d : Digits (suc m) (decimal (suc m))) → number_of true (d.first ∷ row d.others) ≡ negsuc m
+negative_is m h d = on_test (λ (z : ℤ). z ≡ negsuc m) (nat_le (length (d.first ∷ row d.others)) MAX_DIGITS) _ _ (λ _. ap (λ (k : ℕ). neg_ℤ (pos k)) d.value) (λ l. absurd (short (suc m) h (d.first ∷ row d.others) d.is l))
 
-natural_again : (m : ℕ) → m ≤ 10 ^ 18 → ConstOf (operands.Number (pos m))
+natural_again : (m : ℕ) → m ≤ 10 ^ MAX_DIGITS → ConstOf (operands.Number (pos m))
 natural_again m h =
     let d : Digits m (decimal m) = decimal_digits m (omega (arith, h)) in
     record {
@@ -144,7 +145,7 @@ natural_again m h =
       text = sym d.is;
     }
 
-negative_again : (m : ℕ) → suc m < 10 ^ 18 → ConstOf (operands.Number (negsuc m))
+negative_again : (m : ℕ) → suc m < 10 ^ MAX_DIGITS → ConstOf (operands.Number (negsuc m))
 negative_again m h =
     let d : Digits (suc m) (decimal (suc m)) = decimal_digits (suc m) (omega (arith, h)) in
     record {
@@ -154,15 +155,16 @@ negative_again m h =
       text = ap (λ (x : List ℕ). 45 ∷ x) (sym d.is);
     }
 
-signed_again : (neg : Bool) (m : ℕ) → m < 10 ^ 18 → ConstOf (operands.Number (signed neg m))
+signed_again : (neg : Bool) (m : ℕ) → m < 10 ^ MAX_DIGITS → ConstOf (operands.Number (signed neg m))
 signed_again false m h = natural_again m (omega (arith, h))
 signed_again true zero h = natural_again 0 (omega arith)
 signed_again true (suc m) h = negative_again m h
 
 number_again : (neg : Bool) (ds : List ℕ) → ConstOf (operands.Number (number_of neg ds))
 number_again neg ds =
-    on_test (λ (z : ℤ). ConstOf (operands.Number z)) (nat_le (length ds) 18) _ _ (λ h. signed_again neg (value_of ds) (few_digits ds h)) (λ h. natural_again (10 ^ 18) (omega arith))
+    on_test (λ (z : ℤ). ConstOf (operands.Number z)) (nat_le (length ds) MAX_DIGITS) _ _ (λ h. signed_again neg (value_of ds) (few_digits ds h)) (λ h. natural_again (10 ^ MAX_DIGITS) (omega arith))
 
+-- a literal or a number is written again as it prints
 pub const_again : (c : Const) → GoodConst c → ConstOf (const_tree c)
 const_again (literal q v) g = literal_again q v g.0 g.1
 const_again (number a w) g = number_again false (a ∷ row w)

@@ -1,5 +1,5 @@
 -- What is counted, loop by loop and form by form.
-use Rattle.std.proofs.Common.{◌≡◌, ℕ, suc, Bool, ◌||◌, ◌<◌, ◌+◌, List, [], ◌∷◌, ◌++◌, refl, ap, sym, ◌∙◌, map, take, get_or, length, Option, Some, None, min, max, true, false, arith}
+use Rattle.std.proofs.Common.{◌≡◌, ℕ, suc, Bool, ◌||◌, ◌<◌, ◌+◌, List, [], ◌∷◌, ◌++◌, refl, ap, sym, ◌∙◌, map, take, get_or, length, Option, Some, None, min, max, arith}
 use Rattle.std.proofs.lemmas.List.{take_more, map-append}
 use Rattle.std.specs.List.{list_any}
 use Rattle.iris_xpath.specs.declared.expression.Part.{Part}
@@ -30,22 +30,15 @@ min_plus a b m = omega arith
 min_max : (a b m : ℕ) → min (max (min a m) (min b m)) m ≡ min (max a b) m
 min_max a b m = omega arith
 
+-- caps of parts do not change the cap of the whole
 pub capped_both : (a b : Tally) → tally.capped (tally.both (tally.capped a) (tally.capped b)) ≡ tally.capped (tally.both a b)
 capped_both a b = rw (min_plus a.operands b.operands tally.most, min_max a.path b.path tally.most, min_max a.depth b.depth tally.most) refl
 
+-- the cap of two together
 pub both_capped : (a b x y t : Tally) → a ≡ tally.capped x → b ≡ tally.capped y → t ≡ tally.capped (tally.both a b) → t ≡ tally.capped (tally.both x y)
 both_capped a b x y t h k j = j ∙ rw (h, k) (capped_both x y)
 
-min_one : (a m : ℕ) → 0 < m → min (min a m + 1) m ≡ min (a + 1) m
-min_one a m h = omega (arith, h)
-
-min_twice : (a m : ℕ) → min (min a m) m ≡ min a m
-min_twice a m = omega arith
-
-pub capped_path : (t : Tally) (len : ℕ) (counted : Bool) → tally.capped (tally.path_of (tally.capped t) (min len tally.most) counted) ≡ tally.capped (tally.path_of t len counted)
-capped_path t len true = let p : 0 < tally.most = omega arith in rw (min_one t.operands tally.most p, min_one t.depth tally.most p, min_max t.path len tally.most) refl
-capped_path t len false = let p : 0 < tally.most = omega arith in rw (min_one t.operands tally.most p, min_twice t.depth tally.most, min_max t.path len tally.most) refl
-
+-- one element more
 pub joined_more : {X : Type 0} (f : X → Tally) (xs : List X) (i : ℕ) (x : X) (t r s : Tally) → i < length xs → x ≡ get_or xs i x → t ≡ tally.capped (tally.joined tally.nothing (map f (take i xs))) → r ≡ tally.capped (f x) → s ≡ tally.capped (tally.both t r) → s ≡ tally.capped (tally.joined tally.nothing (map f (take (i + 1) xs)))
 joined_more f xs i x t r s l e h k j =
     let a : map f (take (i + 1) xs) ≡ map f (take i xs) ++ f x ∷ [] = ap (map f) (take_more xs i x l) ∙ map-append f (take i xs) (get_or xs i x ∷ []) ∙ ap (λ y. map f (take i xs) ++ f y ∷ []) (sym e) in
@@ -92,8 +85,10 @@ compare_is (operands.Number v) c (operands.Path q) = fold-roll-Expression Tally 
 compare_is (operands.Number v) c (operands.Literal u) = fold-roll-Expression Tally tally.tally_step (Expression-F.Compare (operands.Number v) c (operands.Literal u))
 compare_is (operands.Number v) c (operands.Number w) = fold-roll-Expression Tally tally.tally_step (Expression-F.Compare (operands.Number v) c (operands.Number w))
 
+-- what is counted of a path
 pub path_told : (p : Path Expression) → tally.tally_of (forms.Path p) ≡ tally.tally_path p
 path_told p = ap tally.tally_of (sym (forms.rolls-Path p)) ∙ path_is p
 
+-- what is counted of a comparison
 pub compare_told : (l r : Operand Expression) (c : Comparison) → tally.tally_of (forms.Compare l c r) ≡ tally.both (tally.tally_operand l) (tally.tally_operand r)
 compare_told l r c = ap tally.tally_of (sym (forms.rolls-Compare l c r)) ∙ compare_is l c r

@@ -45,12 +45,15 @@ to n d u r y e h = ap (on n d u) e ∙ ap (λ (k : ℕ). trace n y k u) (max_le 
 
 -- ---- the greatest number only grows
 
+-- a number is at most the greater of two
 pub grow_max : (d p : ℕ) → d ≤ max d p
 grow_max d p = omega arith
 
+-- from one bound to a greater one
 pub le_via : (a b c : ℕ) → a ≤ b → b ≤ c → a ≤ c
 le_via a b c h k = omega (arith, h, k)
 
+-- a number is at most itself
 pub le_self : (a : ℕ) → a ≤ a
 le_self a = omega arith
 
@@ -197,9 +200,6 @@ zero_le d = omega arith
 
 suc_le : (k d : ℕ) → suc k ≤ max d (suc k)
 suc_le k d = omega arith
-
-le_suc : (k d : ℕ) → suc k ≤ d → k ≤ d
-le_suc k d h = omega (arith, h)
 
 -- a byte that opens a parenthesis
 opens : (n : List ℕ → NameTest) (d : ℕ) (u : List ℕ) (r : Option Configuration) (y : Configuration) → r ≡ Some y → on n d u r ≡ trace n y (max d (parens_at y)) u

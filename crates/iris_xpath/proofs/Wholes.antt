@@ -27,6 +27,7 @@ abbrev pub Full : (Expression → Type 0) → List Expression → Type 0
 Full P [] = ⊥
 Full P (x ∷ xs) = P x × Every P xs
 
+-- of a list with an element, all elements
 pub every_of : (P : Expression → Type 0) (xs : List Expression) → Full P xs → Every P xs
 every_of P [] h = tt
 every_of P (x ∷ xs) h = h
@@ -35,6 +36,7 @@ every_append : (P : Expression → Type 0) (xs ys : List Expression) → Every P
 every_append P [] ys h k = k
 every_append P (x ∷ xs) ys h k = (h.0, every_append P xs ys h.1 k)
 
+-- two lists one after another
 pub full_append : (P : Expression → Type 0) (xs ys : List Expression) → Full P xs → Every P ys → Full P (xs ++ ys)
 full_append P [] ys h k = absurd h
 full_append P (x ∷ xs) ys h k = (h.0, every_append P xs ys h.1 k)
@@ -185,6 +187,7 @@ or_all n k most x xs (y ∷ ys) c h = subst (OrChain n k most x) (append_assoc x
 
 -- ---- wholes
 
+-- what is no `or` needs no parentheses
 pub outside_or : (s : Shown) → s.is_or ≡ false → in_and s ≡ s.text
 outside_or s e = rw e refl
 
@@ -242,6 +245,7 @@ or_within n j most l es h w =
       whole = less_ors n j most (roll-Expression (Expression-F.Or es)) w;
     }
 
+-- an `or` with one part more
 pub or_joined : (n : List ℕ → NameTest) (k most : ℕ) (xs : List Expression) (e : Expression) (ys : List Expression) → or_parts e (out-Expression e) ≡ ys → Full (PartOf n k most) xs → Full (PartOf n k most) ys → Inside n k most (joined_or xs e)
 or_joined n k most [] e ys q h g = absurd h
 or_joined n k most (x ∷ xs) e [] q h g = absurd g
@@ -251,9 +255,11 @@ or_joined n k most (x ∷ xs) e (y ∷ ys) q h g =
     subst (λ (z : List Expression). Inside n k most (roll-Expression (Expression-F.Or ((x ∷ xs) ++ z)))) (sym q)
     (record { whole = w; within = λ j p l. or_within n j most l (x ∷ (xs ++ y ∷ ys)) (subst (λ (i : ℕ). Full (PartOf n i most) (x ∷ (xs ++ y ∷ ys))) (sym p) f) (subst (λ (i : ℕ). OrsOf n i most (roll-Expression (Expression-F.Or (x ∷ (xs ++ y ∷ ys))))) (sym p) w) })
 
+-- a whole inside brackets or parentheses
 pub inside_of : (n : List ℕ → NameTest) (k most : ℕ) (e : Expression) → Whole n k most e → Inside n k most e
 inside_of n k most e w = record { whole = w.whole; within = λ j p l. less_whole n j most e (subst (λ (i : ℕ). Whole n i most e) (sym p) w) }
 
+-- a `not` of what is in parentheses
 pub not_whole : (n : List ℕ → NameTest) (k most : ℕ) (a : ℕ) (w : Row) (e : Expression) → suc k ≤ most → a ∷ row w ≡ codes "not" → GoodTested (word a w) → OrsOf n (suc k) most e → Whole n k most (roll-Expression (Expression-F.Not e))
 not_whole n k most a w e l i g o =
     let s : shown (roll-Expression (Expression-F.Not e)) ≡ record { is_or = false; text = not_text (shown e).text } = fold-roll-Expression Shown show_step (Expression-F.Not e) in

@@ -22,6 +22,7 @@ use Rattle.iris_xpath.specs.Printed.{Shown, linked, link_at, bracketed, shown, s
 
 -- ---- loops
 
+-- one text more at the end, behind its link
 pub linked_end : {X : Type 0} (link text : X → List ℕ) (xs : List X) (x : X) → linked link text (xs ++ x ∷ []) ≡ linked link text xs ++ (link_at (length xs) (link x) ++ text x)
 linked_end link text [] x = append-nil (text x)
 linked_end link text (y ∷ ys) x =
@@ -36,20 +37,18 @@ linked_on link text xs x i a b c d l h k j =
 length_take : {X : Type 0} (xs : List X) (i : ℕ) → i < length xs → length (take i xs) ≡ i
 length_take xs i l = length-take-le i xs (omega (arith, l))
 
+-- one text more is written
 pub linked_more : {X : Type 0} (link text : X → List ℕ) (xs : List X) (i : ℕ) (x : X) (a b c d : List ℕ) → i < length xs → x ≡ get_or xs i x → b ≡ a ++ linked link text (take i xs) → c ≡ b ++ link_at i (link x) → d ≡ c ++ text x → d ≡ a ++ linked link text (take (i + 1) xs)
 linked_more link text xs i x a b c d l e h k j =
     rw (take_more xs i x l, ← e) (linked_on link text (take i xs) x i a b c d (length_take xs i l) h k j)
 
+-- one text more of a mapped list is written
 pub linked_map : {X Y : Type 0} (link text : Y → List ℕ) (g : X → Y) (xs : List X) (i : ℕ) (x : X) (a b c d : List ℕ) → i < length xs → x ≡ get_or xs i x → b ≡ a ++ linked link text (map g (take i xs)) → c ≡ b ++ link_at i (link (g x)) → d ≡ c ++ text (g x) → d ≡ a ++ linked link text (map g (take (i + 1) xs))
 linked_map link text g xs i x a b c d l e h k j =
     let q : map g (take (i + 1) xs) ≡ map g (take i xs) ++ g x ∷ [] = ap (map g) (take_more xs i x l) ∙ map-append g (take i xs) (get_or xs i x ∷ []) ∙ ap (λ y. map g (take i xs) ++ g y ∷ []) (sym e) in
     rw q (linked_on link text (map g (take i xs)) (g x) i a b c d (length-map (take i xs) g ∙ length_take xs i l) h k j)
 
-pub flat_more : {X : Type 0} (f : X → List ℕ) (xs : List X) (i : ℕ) (x : X) (a b d : List ℕ) → i < length xs → x ≡ get_or xs i x → b ≡ a ++ flat_map f (take i xs) → d ≡ b ++ f x → d ≡ a ++ flat_map f (take (i + 1) xs)
-flat_more f xs i x a b d l e h k =
-    let q : flat_map f (take i xs ++ x ∷ []) ≡ flat_map f (take i xs) ++ (f x ++ []) = flat_map-append f (take i xs) (x ∷ []) in
-    rw (take_more xs i x l, ← e, q, append-nil (f x)) (k ∙ rw h (append_assoc a (flat_map f (take i xs)) (f x)))
-
+-- one predicate more
 pub bracketed_more : (xs : List Expression) (i : ℕ) (x : Expression) (a b c d e : List ℕ) → i < length xs → x ≡ get_or xs i x → b ≡ a ++ predicates_text (take i xs) → c ≡ b ++ 91 ∷ [] → d ≡ c ++ (shown x).text → e ≡ d ++ 93 ∷ [] → e ≡ a ++ predicates_text (take (i + 1) xs)
 bracketed_more xs i x a b c d e l is h k j m =
     let q : map shown (take (i + 1) xs) ≡ map shown (take i xs) ++ shown x ∷ [] = ap (map shown) (take_more xs i x l) ∙ map-append shown (take i xs) (get_or xs i x ∷ []) ∙ ap (λ y. map shown (take i xs) ++ shown y ∷ []) (sym is) in
@@ -93,6 +92,7 @@ any_parts : (g : Part Expression → Part Shown) → ((x : Part Expression) → 
     → path_text (flat_map bracketed) (record { parts = map g ps; attribute = a }) ≡ path_text predicates_text (record { parts = ps; attribute = a })
 any_parts g h k ps a = rw (linked_is g h k ps, attribute_is g ps a) refl
 
+-- how a path prints
 pub path_is : (p : Path Expression) → shown (roll-Expression (Expression-F.Path p)) ≡ record { is_or = false; text = path_text predicates_text p }
 path_is p = fold-roll-Expression Shown show_step (Expression-F.Path p) ∙ ap (λ (t : List ℕ). record { is_or = false; text = t }) (any_parts _ (on_part _ refl refl (λ s. refl)) (on_part _ refl refl (λ s. refl)) p.parts p.attribute)
 
@@ -102,6 +102,7 @@ compared l c r = record { is_or = false; text = l ++ (sign_shown c ++ r) }
 compared_is : (c : Comparison) (x y u v : List ℕ) → x ≡ u → y ≡ v → compared x c y ≡ compared u c v
 compared_is c x y u v e f = rw (e, f) refl
 
+-- how a comparison prints
 pub compare_is : (l : Operand Expression) (c : Comparison) (r : Operand Expression) → shown (roll-Expression (Expression-F.Compare l c r)) ≡ compared (operand_text predicates_text l) c (operand_text predicates_text r)
 compare_is (operands.Path p) c (operands.Path q) = fold-roll-Expression Shown show_step (Expression-F.Compare (operands.Path p) c (operands.Path q)) ∙ compared_is c _ _ _ _ (any_parts _ (on_part _ refl refl (λ s. refl)) (on_part _ refl refl (λ s. refl)) p.parts p.attribute) (any_parts _ (on_part _ refl refl (λ s. refl)) (on_part _ refl refl (λ s. refl)) q.parts q.attribute)
 compare_is (operands.Path p) c (operands.Literal u) = fold-roll-Expression Shown show_step (Expression-F.Compare (operands.Path p) c (operands.Literal u)) ∙ compared_is c _ (operand_text predicates_text (operands.Literal u)) _ (operand_text predicates_text (operands.Literal u)) (any_parts _ (on_part _ refl refl (λ s. refl)) (on_part _ refl refl (λ s. refl)) p.parts p.attribute) refl
@@ -113,11 +114,14 @@ compare_is (operands.Number v) c (operands.Path q) = fold-roll-Expression Shown 
 compare_is (operands.Number v) c (operands.Literal u) = fold-roll-Expression Shown show_step (Expression-F.Compare (operands.Number v) c (operands.Literal u))
 compare_is (operands.Number v) c (operands.Number w) = fold-roll-Expression Shown show_step (Expression-F.Compare (operands.Number v) c (operands.Number w))
 
+-- how a path prints, as the code makes it
 pub path_told : (p : Path Expression) → shown (forms.Path p) ≡ record { is_or = false; text = path_text predicates_text p }
 path_told p = ap shown (sym (forms.rolls-Path p)) ∙ path_is p
 
+-- how a comparison prints, as the code makes it
 pub compare_told : (l r : Operand Expression) (c : Comparison) → shown (forms.Compare l c r) ≡ compared (operand_text predicates_text l) c (operand_text predicates_text r)
 compare_told l r c = ap shown (sym (forms.rolls-Compare l c r)) ∙ compare_is l c r
 
+-- three texts, one after another
 pub third : (a l s r b c u : List ℕ) → b ≡ a ++ l → c ≡ b ++ u → u ≡ s → a ++ (l ++ (s ++ r)) ≡ c ++ r
 third a l s r b c u h k j = sym (rw (k, h, j) (simp append_assoc refl))

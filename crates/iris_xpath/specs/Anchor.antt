@@ -55,7 +55,7 @@ abbrev pub AllAnchored : Syntax → Type 0
 AllAnchored [] = Unit {0}
 AllAnchored (s ∷ q) = IsAnchored s × AllAnchored q
 
--- each step is anchored and has the label at its state
+-- each step is anchored and has the label at its place
 abbrev pub HaveLabels : Syntax → List Label → Type 0
 HaveLabels [] [] = Unit {0}
 HaveLabels [] (l ∷ ls) = ⊥

@@ -241,6 +241,16 @@ after_step step spot fs b =
 
 -- ---- the machine, in which a function tells what a word tests
 
+-- the name of an attribute goes on with each byte that may stand in it
+abbrev pub in_attribute : Separator → List ℕ → List (Part Expression) → Side → List Frame → ℕ → Option Configuration
+in_attribute sep word ps side fs b =
+    if is_word_byte b then Some (at (states.InAttribute sep (word ++ b ∷ []) ps side) fs) else after_operand (attribute_of sep word ps) side fs b
+
+-- a number goes on with each digit
+abbrev pub in_digits : Bool → List ℕ → Side → List Frame → ℕ → Option Configuration
+in_digits negative digits side fs b =
+    if is_digit b then Some (at (states.InDigits negative (digits ++ b ∷ []) side) fs) else after_operand (operands.Number (number_of negative digits)) side fs b
+
 -- a literal goes on up to its quote
 abbrev pub in_literal : ℕ → List ℕ → Side → List Frame → ℕ → Option Configuration
 in_literal q text side fs b = if b == q then Some (at (states.AfterOperand (operands.Literal text) side) fs) else Some (inside q (text ++ b ∷ []) side fs)
@@ -257,13 +267,11 @@ next named (at (states.Unit level) fs) b = unit level fs b
 next named (at (states.Dot ps side) fs) b = after_dot ps side fs b
 next named (at (states.AfterDots ps side) fs) b = after_dots ps side fs b
 next named (at (states.AtSign sep ps side) fs) b = below fs (after_at sep ps side b)
-next named (at (states.InAttribute sep word ps side) fs) b =
-    if is_word_byte b then Some (at (states.InAttribute sep (word ++ b ∷ []) ps side) fs) else after_operand (attribute_of sep word ps) side fs b
+next named (at (states.InAttribute sep word ps side) fs) b = in_attribute sep word ps side fs b
 next named (at (states.AfterOperand o side) fs) b = after_operand o side fs b
 next named (at (states.InLiteral q side) fs) b = in_literal q [] side fs b
 next named (at (states.Minus side) fs) b = below fs (after_minus side b)
-next named (at (states.InDigits negative digits side) fs) b =
-    if is_digit b then Some (at (states.InDigits negative (digits ++ b ∷ []) side) fs) else after_operand (operands.Number (number_of negative digits)) side fs b
+next named (at (states.InDigits negative digits side) fs) b = in_digits negative digits side fs b
 next named (at (states.Bang left level) fs) b = below fs (after_bang left level b)
 next named (at (states.Sign compared level) fs) b = below fs (after_sign compared level b)
 next named (at (states.Right side) fs) b = below fs (begin_right side b)
@@ -332,7 +340,7 @@ IsBytewise (states.Right side) = Unit {0}
 IsBytewise (states.AfterGroup e level) = Unit {0}
 IsBytewise (states.Link link e level) = Unit {0}
 
--- the next state and what is open then
+-- a byte leads to that state, and so much is open then
 abbrev pub Turned : Option Configuration → Option State → List Frame → Type 0
 Turned None p fs = p ≡ None
 Turned (Some (at state now)) p fs = (p ≡ Some state) × (fs ≡ now)

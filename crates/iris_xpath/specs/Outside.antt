@@ -22,7 +22,7 @@ use Rattle.iris_xpath.specs.declared.outside.Last.TheVariants as lasts
 use Rattle.iris_xpath.specs.Bytes.{is_digit, is_word_byte}
 use Rattle.iris_xpath.specs.Trees.{is_none}
 
--- ---- what stands before a state
+-- ---- what was read last
 
 -- whether a step with this test and these predicates is a word alone
 abbrev pub is_word_in : NameTest → List Expression → Bool
@@ -43,7 +43,7 @@ abbrev pub after_step : Bool → Spot → Last
 after_step word (spots.Main ss) = lasts.MainStep word
 after_step word (spots.Part ps side) = after_operand (if word then endings.Word else endings.Other) side
 
--- what stands before, by the state of the reader
+-- what was read last, in a state of the reader
 abbrev pub last_of : State → Last
 last_of states.Start = lasts.Other
 last_of (states.Slash (spots.Main ss)) = lasts.MainSeparator
@@ -74,7 +74,7 @@ last_of (states.Link links.A e level) = lasts.Other
 last_of (states.Link links.An e level) = lasts.Other
 last_of (states.Link links.O e level) = lasts.Other
 
--- ---- the rows of the table
+-- ---- the parts of XPath 1.0 that are outside the language
 
 -- an operand that ends in a word
 abbrev pub is_word_ending : Ending → Bool

@@ -17,7 +17,7 @@ Judged n text p = (p ≤ length text) × IsPrefix n (take p text) × (p < length
 abbrev pub last_byte : List ℕ → Option ℕ
 last_byte bs = slice_get bs (length bs - 1)
 
--- what stands before a state in the text, and after it
+-- what stands at the front of the rest, in a configuration and after a byte
 abbrev pub what_in : Option Configuration → Option ℕ → List ℕ → Option OutsidePart
 what_in None before rest = None
 what_in (Some (at state fs)) before rest = what_at (last_of state) before rest

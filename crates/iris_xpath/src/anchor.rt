@@ -1,4 +1,4 @@
-//! The node under which every selected state lies.
+//! The node under which every selected place lies.
 ghost use Rattle.std.specs.Prelude.{◌≡◌, ◌↔◌, ℕ, List, IfOk, IsTrue, MatchOption};
 ghost use Rattle.iris_xpath.specs.declared.expression.Comparison.TheVariants.{Equal};
 ghost use Rattle.iris_xpath.specs.Anchor.{IsIdPredicate, IsIdBetween, IsIdLiteral, own_id, id_path, HasNoId, FirstId, Anchored, IsAnchored, Lca, LcaName};
@@ -8,7 +8,8 @@ use crate::query::Query;
 use iris_tree::{Id, Label, Mem, Name};
 use std::alloc::Global;
 
-/// The greatest number of steps at the front that are all anchored.
+/// The greatest number of steps at the front that are all anchored: they have `/`, a kind and a predicate
+/// that compares `@id` by `=` with a well-formed id. All that the query selects lies under one node.
 pub fn lca(query: &Query) -> usize
     ensures { Lca query.now result }
 {
@@ -22,7 +23,7 @@ pub fn lca(query: &Query) -> usize
     count
 }
 
-/// The name of the labels of the anchored steps at the front.
+/// The name of that node: the labels of the anchored steps at the front, from the top down.
 pub fn lca_name(alloc: Global, query: &Query) -> Mem<Name>
     ensures { IfOk result (LcaName query.now) }
 {

@@ -79,7 +79,7 @@ pub enum Operand<E> {
     Path(Path<E>),
     /// A text in quotes.
     Literal(Text),
-    /// A whole number of up to 18 digits.
+    /// A whole number of up to `MAX_DIGITS` digits.
     Number(i64),
 }
 

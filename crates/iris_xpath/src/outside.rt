@@ -23,7 +23,7 @@ pub enum Ending {
     Other,
 }
 
-/// What stands before a state where no query goes on.
+/// What stands before the byte where no query goes on, blanks passed over.
 #[derive(Clone, Copy)]
 pub enum Last {
     /// A step of the main path.
@@ -46,7 +46,7 @@ pub enum Last {
 }
 
 impl Last {
-    /// What stands before the state.
+    /// What was read last, in that state.
     pub fn of(state: &State) -> Last
         ensures { result ≡ outside.last_of state.now }
     {
@@ -129,7 +129,7 @@ fn is_word(step: &Step<Expression>) -> bool
 }
 
 /// The part of XPath 1.0 that stands at the front of the rest, where no query goes on, after that byte: the
-/// first row of the table that fits.
+/// first that fits, in the order of `OutsidePart`.
 pub fn what_at(last: Last, before: Option<u8>, rest: &[u8]) -> Option<OutsidePart>
     ensures { result ≡ outside.what_at last before rest.now }
 {

@@ -5,16 +5,17 @@ ghost use Rattle.iris_xpath.specs.Trees as trees;
 ghost use Rattle.iris_xpath.specs.Machine.{Turned, IsBytewise, at};
 
 use crate::bytes::{is_digit, is_word_byte};
-use crate::expression::Operand;
+use crate::expression::{Expression, Operand, Part, Separator};
 use crate::operands::{after_bang, after_minus, after_operand, after_sign, number_of, right};
 use crate::stack::Stack;
-use crate::state::State;
+use crate::state::{Side, State};
 use crate::steps::{
     after_at, after_dot, after_dots, after_separator, after_slash, after_step, attribute_of,
     begin_text, step_of, test_of,
 };
 use crate::units::{after_group, after_link, unit};
-use iris_tree::{Kind, Mem};
+use crate::word::Word;
+use iris_tree::{Kind, Mem, Sequence};
 use std::alloc::Global;
 
 /// What a byte does at a state, below what is open: the next state, or nothing where no query goes on
@@ -64,18 +65,7 @@ pub fn turn(
             word,
             parts,
             side,
-        } => {
-            if is_word_byte(byte) {
-                let word = word.push(byte)?;
-                return Ok(Some(State::InAttribute {
-                    separator,
-                    word,
-                    parts,
-                    side,
-                }));
-            }
-            after_operand(stack, attribute_of(separator, word, parts), side, byte)
-        }
+        } => in_attribute(stack, separator, word, parts, side, byte),
         State::AfterOperand { operand, side } => after_operand(stack, operand, side, byte),
         State::InLiteral { .. } => unreachable!(),
         State::Minus { side } => after_minus(alloc, side, byte),
@@ -83,22 +73,58 @@ pub fn turn(
             negative,
             digits,
             side,
-        } => {
-            if is_digit(byte) {
-                let digits = digits.push(byte)?;
-                return Ok(Some(State::InDigits {
-                    negative,
-                    digits,
-                    side,
-                }));
-            }
-            let operand = Operand::Number(number_of(negative, &digits));
-            after_operand(stack, operand, side, byte)
-        }
+        } => in_digits(stack, negative, digits, side, byte),
         State::Bang { left, level } => Ok(after_bang(left, level, byte)),
         State::Sign { compared, level } => after_sign(alloc, compared, level, byte),
         State::Right { side } => right(alloc, side, byte),
         State::AfterGroup { unit, level } => after_group(stack, unit, level, byte),
         State::Link { link, unit, level } => after_link(alloc, stack, link, unit, level, byte),
     }
+}
+
+// After bytes of an attribute's name.
+fn in_attribute(
+    stack: &mut Stack,
+    separator: Separator,
+    word: Word,
+    parts: Sequence<Part<Expression>>,
+    side: Side,
+    byte: u8,
+) -> Mem<Option<State>>
+    requires { byte < 128 }
+    ensures { IfOk result (λ next. Turned (machine.in_attribute separator word parts side stack.old byte) next stack.new) }
+{
+    if is_word_byte(byte) {
+        let word = word.push(byte)?;
+        return Ok(Some(State::InAttribute {
+            separator,
+            word,
+            parts,
+            side,
+        }));
+    }
+    after_operand(stack, attribute_of(separator, word, parts), side, byte)
+}
+
+// After digits of a number.
+fn in_digits(
+    stack: &mut Stack,
+    negative: bool,
+    digits: Word,
+    side: Side,
+    byte: u8,
+) -> Mem<Option<State>>
+    requires { byte < 128 }
+    ensures { IfOk result (λ next. Turned (machine.in_digits negative digits side stack.old byte) next stack.new) }
+{
+    if is_digit(byte) {
+        let digits = digits.push(byte)?;
+        return Ok(Some(State::InDigits {
+            negative,
+            digits,
+            side,
+        }));
+    }
+    let operand = Operand::Number(number_of(negative, &digits));
+    after_operand(stack, operand, side, byte)
 }
