@@ -22,6 +22,7 @@ mod Stacks
 mod Tallies
 pub mod ThinQuery
 mod Traces
+pub mod UnderAnchors
 pub mod Walk
 mod Wholes
 mod Words

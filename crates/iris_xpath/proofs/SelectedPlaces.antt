@@ -95,7 +95,8 @@ leads_or t u at (s ∷ ss) (e ∷ place) =
 
 -- ---- a place at the front of another
 
-edge_is : (e f : Edge) → edge_eq e f ≡ true → e ≡ f
+-- edges that are equal are one
+pub edge_is : (e f : Edge) → edge_eq e f ≡ true → e ≡ f
 edge_is (position i) (position j) h = ap (λ (is : List ℕ). position (get_or is 0 0)) ((bytes_eq-Decides (i ∷ []) (j ∷ [])).0 h)
 edge_is (position i) (label m) h = absurd (cc)
 edge_is (label l) (position j) h = absurd (cc)

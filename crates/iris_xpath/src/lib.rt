@@ -3,6 +3,7 @@
 #![tactic(auto)]
 
 mod anchor;
+mod anchor_laws;
 mod bytes;
 mod copying;
 mod error;
@@ -23,6 +24,7 @@ mod units;
 mod word;
 
 pub use anchor::{lca, lca_name};
+pub use anchor_laws::selected_lies_under_lca_name;
 pub use error::{OutsidePart, QueryError, QueryLimit};
 pub use expression::{
     Attribute, Comparison, Expression, NameTest, Operand, Part, Path, Separator, Step,
