@@ -5,7 +5,7 @@ use Rattle.serde_json.specs.Written.{compact_text}
 use Rattle.iris_json.specs.declared.out.Why.{Why}
 use Rattle.iris_json.specs.declared.out.Why.TheVariants.{Empty, Truncated, NotJson, Shape, Name, Number, Change}
 use Rattle.iris_json.specs.declared.out.Which.{Which}
-use Rattle.iris_json.specs.declared.out.Which.TheVariants.{Line, Script, Lines, Nodes, Depth, Children, Attributes, Local}
+use Rattle.iris_json.specs.declared.out.Which.TheVariants.{Line, Script, Lines, Nodes, Depth, Children, Attributes, Plain, PlainDepth, Local}
 use Rattle.iris_json.specs.declared.out.Out.{Out}
 use Rattle.iris_json.specs.declared.out.Out.TheVariants.{Query, Update, Answer, Audit, Accepted, Settled, BackInTime, NoSuchNode, Old, BadChange, BadQuery, Ended, Limit}
 use Rattle.iris_json.specs.declared.out.QueryFault.{QueryFault}
@@ -35,6 +35,8 @@ which_word Nodes = codes "nodes"
 which_word Depth = codes "depth"
 which_word Children = codes "children"
 which_word Attributes = codes "attributes"
+which_word Plain = codes "plain"
+which_word PlainDepth = codes "plain-depth"
 which_word Local = codes "local"
 
 -- a post: what is posted, its number, the request's, and the agent that it goes to

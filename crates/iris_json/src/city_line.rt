@@ -203,9 +203,12 @@ fn city_of(alloc: Global, parts: Parts) -> Mem<City>
 
 /// Reads the city line, without its LF: 1 to `MAX_KINDS` different kinds; one agent; the one pair of the top
 /// node's name and that agent as places; the nodes, no two siblings with one label, no attribute named
-/// `id`. A line has at most `MAX_CITY_BYTES` bytes, a city `MAX_NODES` nodes and `MAX_LABELS` labels in
-/// a name, a node `MAX_CHILDREN` children, `MAX_ATTRIBUTES` attributes and `MAX_LOCAL_BYTES` bytes of
-/// canonical local information. The form of the whole line is looked at before the limits of its nodes.
+/// `id`, no plain element whose tag is a kind, and none with both kids and a text. A line has at most
+/// `MAX_CITY_BYTES` bytes, a city `MAX_NODES` nodes and `MAX_LABELS` labels in a name, a node
+/// `MAX_CHILDREN` children, `MAX_PLAIN` plain elements in `MAX_PLAIN_DEPTH` levels and `MAX_LOCAL_BYTES`
+/// bytes of canonical local information, a node and a plain element `MAX_ATTRIBUTES` attributes. The
+/// form of the whole line is looked at before the limits of its nodes. Plain elements stand in the
+/// city in the order of their texts, in whatever order the line has them.
 pub fn read_city(alloc: Global, bytes: &[u8]) -> Result<City, CityError>
     ensures found { IfOk result (λ city. (agent : List ℕ) × ReadsCity bytes.now city.kinds agent city.tree × IsHeldBy city agent) }
     ensures only { (kinds : List (List ℕ)) (agent : List ℕ) (tree : Node) → ReadsCity bytes.now kinds agent tree → GivesCity result kinds agent tree }

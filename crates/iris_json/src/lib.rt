@@ -12,6 +12,7 @@ mod laws;
 mod line;
 mod node;
 mod out;
+mod plain;
 mod row;
 #[cfg(test)]
 mod tests;

@@ -61,8 +61,12 @@ pub enum Which {
     Depth,
     /// The children of a node, `MAX_CHILDREN`.
     Children,
-    /// The attributes of a node, `MAX_ATTRIBUTES`.
+    /// The attributes of a node or of a plain element, `MAX_ATTRIBUTES`.
     Attributes,
+    /// The plain elements of a node at any depth, `MAX_PLAIN`.
+    Plain,
+    /// The levels of plain elements of a node, `MAX_PLAIN_DEPTH`.
+    PlainDepth,
     /// The bytes of a node's canonical local information, `MAX_LOCAL_BYTES`.
     Local,
 }
@@ -80,6 +84,8 @@ impl Which {
             Which::Depth => "depth",
             Which::Children => "children",
             Which::Attributes => "attributes",
+            Which::Plain => "plain",
+            Which::PlainDepth => "plain-depth",
             Which::Local => "local",
         }
     }
