@@ -19,7 +19,7 @@ use Rattle.iris_tree.specs.PlainCounts.{plains_count, plains_depth, plains_attri
 use Rattle.iris_tree.specs.NodeCode.{size_of, nodes_of-list_of}
 use Rattle.iris_tree.specs.Siblings.{IsLabelOrder}
 use Rattle.iris_tree.specs.Universe.{Node, node, Nodes, no_nodes, nodes, nodes_of, list_of, local_of, children_of}
-use Rattle.iris_json.specs.CityForm.{EachOwn, EachOwns, HoldsTexts, EachHoldsTexts, AllHoldTexts, IsCityNode, AreCityNodes}
+use Rattle.iris_json.specs.CityForm.{EachOwn, EachOwns, IsLocalForm, EachLocalForm, AllLocalForms, IsCityNode, AreCityNodes}
 use Rattle.iris_json.specs.CityLimits.{levels_of, levels_below, greatest_count, greatest_below, count_children, count_attributes, count_plain, count_plain_depth, count_local, passed_limit}
 use Rattle.iris_json.specs.PlainForm.{AreNames}
 use Rattle.iris_tree.specs.NamesKind.{plains_name_kind}
@@ -67,9 +67,9 @@ mutual
 -- ---- the attributes, as the loop over the children reads them
 
 -- all children are read, and the node itself before them
-pub texts_found : (tree : Node) (local : Local) (given : List Node) → local_of tree ≡ local → HoldsTexts local → IsLabelOrder given (children_of tree) → AllHoldTexts (nodes_of given) → EachHoldsTexts tree
-texts_found (node called held below) local given same own order all =
-    (subst HoldsTexts (sym same) own, subst AllHoldTexts (nodes_of-list_of below) (each_in_order (λ label local. HoldsTexts local) given (list_of below) order all))
+pub form_found : (tree : Node) (local : Local) (given : List Node) → local_of tree ≡ local → IsLocalForm local → IsLabelOrder given (children_of tree) → AllLocalForms (nodes_of given) → EachLocalForm tree
+form_found (node called held below) local given same own order all =
+    (subst IsLocalForm (sym same) own, subst AllLocalForms (nodes_of-list_of below) (each_in_order (λ label local. IsLocalForm local) given (list_of below) order all))
 
 -- ---- the limits of local information
 
@@ -142,7 +142,7 @@ within_own : (n : Node) → length (children_of n) ≤ MAX_CHILDREN → IsLocalW
 within_own n few w = (few, omega (arith, w.attrs, w.inner), w.count, w.depth, w.short)
 
 mutual
-  form_fits : (kinds : List (List ℕ)) (levels : ℕ) (n : Node) → HasForm kinds n → EachHoldsTexts n → levels_of n ≤ levels → NodeFits n → IsCityNode kinds levels n
+  form_fits : (kinds : List (List ℕ)) (levels : ℕ) (n : Node) → HasForm kinds n → EachLocalForm n → levels_of n ≤ levels → NodeFits n → IsCityNode kinds levels n
   form_fits kinds zero (node label local below) form held deep w = absurd (omega (arith, deep))
   form_fits kinds (suc levels) (node label local below) form held deep w =
       let n = node label local below in
@@ -163,7 +163,7 @@ mutual
         forms_fit kinds levels below form.1 held.1 (omega (arith, deep)) rest,
       )
 
-  forms_fit : (kinds : List (List ℕ)) (levels : ℕ) (ns : Nodes) → HaveForm kinds ns → AllHoldTexts ns → levels_below ns ≤ levels → NodesFit ns → AreCityNodes kinds levels ns
+  forms_fit : (kinds : List (List ℕ)) (levels : ℕ) (ns : Nodes) → HaveForm kinds ns → AllLocalForms ns → levels_below ns ≤ levels → NodesFit ns → AreCityNodes kinds levels ns
   forms_fit kinds levels no_nodes form held deep w = tt
   forms_fit kinds levels (nodes n ns) form held deep w = (
     form_fits kinds levels n form.0 held.0 (omega (arith, deep)) (left_fits _ _ _ _ _ _ _ _ _ _ w),
@@ -171,7 +171,7 @@ mutual
   )
 
 -- a tree that is read and passes no limit has the nodes of a city
-pub tree_fits : (kinds : List (List ℕ)) (agent : List ℕ) (d : Data) (tree : Node) → IsCity d kinds agent tree → EachHoldsTexts tree → passed_limit tree ≡ None → IsCityNode kinds MAX_LABELS tree
+pub tree_fits : (kinds : List (List ℕ)) (agent : List ℕ) (d : Data) (tree : Node) → IsCity d kinds agent tree → EachLocalForm tree → passed_limit tree ≡ None → IsCityNode kinds MAX_LABELS tree
 tree_fits kinds agent d tree is held within =
     let w = within_none tree within in
     form_fits kinds MAX_LABELS tree (node_form kinds is.tree_at.0 tree is.tree_at.2) held w.labels (w.children, w.attributes, w.plain, w.plain_depth, w.local)

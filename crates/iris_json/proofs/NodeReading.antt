@@ -13,7 +13,7 @@ use Rattle.iris_tree.specs.NodeCode.{nodes_of-list_of}
 use Rattle.iris_tree.specs.Siblings.{HaveDistinctLabels, IsLabelOrder}
 use Rattle.iris_tree.specs.Universe.{Node, node, Nodes, nodes_of, list_of, label_of, local_of, children_of}
 use Rattle.iris_tree.proofs.Siblings.{list_of-nodes_of, label_order_once, label_order_distinct}
-use Rattle.iris_json.specs.CityForm.{EachHoldsTexts, AllHoldTexts}
+use Rattle.iris_json.specs.CityForm.{EachLocalForm, AllLocalForms}
 use Rattle.iris_json.specs.CityLine.{LabelAt, LocalAt, OwnAt, NodesAt, IsNode, is_node, AreNodes, none, more}
 use Rattle.iris_json.specs.PlainLine.{AttrsAt, PlainsAt}
 use Rattle.iris_json.proofs.PlainReading.{attrs_once, items_once, plains_at_once}
@@ -113,25 +113,25 @@ mutual
 -- the first i of these values are the nodes ns
 pub record ReadSo (kinds : List (List ℕ)) (items : List Value) (i : ℕ) (ns : List Node) : Type 0 where
   pub are : AreNodes kinds (items_view (take i items)) ns
-  pub texts : AllHoldTexts (nodes_of ns)
+  pub form : AllLocalForms (nodes_of ns)
 
 pub so_start : (kinds : List (List ℕ)) (items : List Value) (ns : List Node) → ns ≡ [] → ReadSo kinds items 0 ns
-so_start kinds items [] alone = record { are = none; texts = tt }
+so_start kinds items [] alone = record { are = none; form = tt }
 so_start kinds items (n ∷ ns) alone = absurd (cc)
 
-texts_more : (ns : List Node) (n : Node) → AllHoldTexts (nodes_of ns) → EachHoldsTexts n → AllHoldTexts (nodes_of (ns ++ n ∷ []))
-texts_more [] n all one = (one, tt)
-texts_more (m ∷ ns) n all one = (all.0, texts_more ns n all.1 one)
+forms_more : (ns : List Node) (n : Node) → AllLocalForms (nodes_of ns) → EachLocalForm n → AllLocalForms (nodes_of (ns ++ n ∷ []))
+forms_more [] n all one = (one, tt)
+forms_more (m ∷ ns) n all one = (all.0, forms_more ns n all.1 one)
 
 -- one child more
 pub so_step : (kinds : List (List ℕ)) (items : List Value) (i : ℕ) (ns : List Node) → ReadSo kinds items i ns → (v : Value) → i < length items → v ≡ get_or items i v
-    → (n : Node) → IsNode kinds (view v) n → EachHoldsTexts n → (new : List Node) → new ≡ ns ++ n ∷ [] → ReadSo kinds items (i + 1) new
-so_step kinds items i ns s v within is n one texts new made =
+    → (n : Node) → IsNode kinds (view v) n → EachLocalForm n → (new : List Node) → new ≡ ns ++ n ∷ [] → ReadSo kinds items (i + 1) new
+so_step kinds items i ns s v within is n one form new made =
     let before : take i items ++ v ∷ [] ≡ take (i + 1) items = ap (λ (x : Value). take i items ++ x ∷ []) is ∙ sym (take_more items i v within) in
     let are = subst (λ (vs : List Value). AreNodes kinds (items_view vs) (ns ++ n ∷ [])) before (nodes_more kinds (take i items) v ns n s.are one) in
     record {
       are = subst (AreNodes kinds (items_view (take (i + 1) items))) (sym made) are;
-      texts = subst (λ (ms : List Node). AllHoldTexts (nodes_of ms)) (sym made) (texts_more ns n s.texts texts);
+      form = subst (λ (ms : List Node). AllLocalForms (nodes_of ms)) (sym made) (forms_more ns n s.form form);
     }
 
 -- ---- the ways out

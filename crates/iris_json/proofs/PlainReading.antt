@@ -49,6 +49,7 @@ each_in : (P : Plain → Type 0) (ps : List Plain) → ((i : ℕ) (place : Place
 each_in P [] h = tt
 each_in P (p ∷ ps) h = (λ place q there. h 0 place q there, each_in P ps (λ i place q there. h (suc i) place q there))
 
+-- of each of its kids, and of each below them
 pub kids_plain : (P : Plain → Type 0) (p : Plain) → EachPlain P p → AllByRecursion (EachPlain P) (out-Plain p).kids
 kids_plain P p each = each_in P (out-Plain p).kids (λ i place q there. each (position i ∷ place) q there)
 

@@ -43,19 +43,19 @@ abbrev mutual
   EachOwns Such no_nodes = ⊤
   EachOwns Such (nodes n ns) = EachOwn Such n × EachOwns Such ns
 
--- what a node holds itself: attributes in order, with texts as their values, and plain elements of their form in the order of their texts
-pub record HoldsTexts (local : Local) : Type 0 where
+-- the form of what a node holds itself, as each reader of one keeps it: attributes in the order of their names, plain elements of their form in the order of their texts
+pub record IsLocalForm (local : Local) : Type 0 where
   pub attrs : AreTexts local.attrs
   pub plain : ArePlainForms local.plain
   pub canonical : IsCanonical local
 
--- each node of a tree holds such
-abbrev pub EachHoldsTexts : Node → Type 0
-EachHoldsTexts = EachOwn (λ label local. HoldsTexts local)
+-- what each node of a tree holds is of that form
+abbrev pub EachLocalForm : Node → Type 0
+EachLocalForm = EachOwn (λ label local. IsLocalForm local)
 
--- each node of these trees holds such
-abbrev pub AllHoldTexts : Nodes → Type 0
-AllHoldTexts = EachOwns (λ label local. HoldsTexts local)
+-- what each node of these trees holds is
+abbrev pub AllLocalForms : Nodes → Type 0
+AllLocalForms = EachOwns (λ label local. IsLocalForm local)
 
 -- a node of a city, with at most so many levels of nodes and no more children than each may have
 abbrev mutual

@@ -7,7 +7,7 @@ ghost use Rattle.serde_json.specs.View.{view, members_view};
 ghost use Rattle.iris_base.specs.declared.name.Label.{Label};
 ghost use Rattle.iris_tree.specs.declared.local.Local.{Local};
 ghost use Rattle.iris_tree.specs.Universe.{Node};
-ghost use Rattle.iris_json.specs.CityForm.{HoldsTexts, EachHoldsTexts};
+ghost use Rattle.iris_json.specs.CityForm.{IsLocalForm, EachLocalForm};
 ghost use Rattle.iris_json.specs.CityLine.{LocalAt, LabelAt, OwnAt, IsNode, GivesCityPart};
 
 use crate::city::FormError;
@@ -47,7 +47,7 @@ fn read_label(kinds: &[Kind], members: &Members) -> Result<Label, FormError>
 // What a node holds itself.
 fn read_local(alloc: Global, kinds: &[Kind], members: &Members) -> Result<Local, FormError>
     ensures found { IfOk result (λ local. LocalAt kinds.now (object (members_view members.now.entries)) local) }
-    ensures texts { IfOk result HoldsTexts }
+    ensures form { IfOk result IsLocalForm }
     ensures only { (local : Local) → LocalAt kinds.now (object (members_view members.now.entries)) local → GivesCityPart result local }
 {
     let attrs = read_attrs(alloc, members)?;
@@ -62,7 +62,7 @@ fn read_local(alloc: Global, kinds: &[Kind], members: &Members) -> Result<Local,
 // What a node is called, and what it holds itself.
 fn read_own(alloc: Global, kinds: &[Kind], members: &Members) -> Result<(Label, Local), FormError>
     ensures found { IfOk result (λ own. OwnAt kinds.now (object (members_view members.now.entries)) own.0 own.1) }
-    ensures texts { IfOk result (λ own. HoldsTexts own.1) }
+    ensures form { IfOk result (λ own. IsLocalForm own.1) }
     ensures only { (label : Label) (local : Local) → OwnAt kinds.now (object (members_view members.now.entries)) label local → GivesCityPart result (label, local) }
 {
     if !has_only(members, &["kind", "id", "attrs", "plain", "nodes"]) {
@@ -78,7 +78,7 @@ fn read_own(alloc: Global, kinds: &[Kind], members: &Members) -> Result<(Label, 
 pub fn read_node(alloc: Global, kinds: &[Kind], value: &Value) -> Result<Tree, FormError>
     requires kinds { 0 < length kinds.now }
     ensures found { IfOk result (λ tree. IsNode kinds.now (view value.now) tree) }
-    ensures texts { IfOk result EachHoldsTexts }
+    ensures form { IfOk result EachLocalForm }
     ensures only { (tree : Node) → IsNode kinds.now (view value.now) tree → GivesCityPart result tree }
 {
     let Some(members) = value.as_object() else {
