@@ -17,7 +17,8 @@ use Rattle.iris_tree.specs.Attrs.{Pairs, with_attr}
 use Rattle.iris_tree.specs.LocalText.{attrs_members}
 use Rattle.iris_json.specs.declared.city.FormError.{FormError}
 use Rattle.iris_json.specs.declared.city.FormError.TheVariants.{Shape, Memory}
-use Rattle.iris_json.specs.CityForm.{IsAttrName, AreAttrs, AreTexts}
+use Rattle.iris_base.specs.Forms.{IsTag}
+use Rattle.iris_json.specs.PlainForm.{AreNames, AreTexts}
 use Rattle.iris_json.specs.CityLine.{GivesCityPart}
 
 -- an error that one reader may give another may give too
@@ -47,7 +48,7 @@ all-match_ordering P Greater a b c ha hb hc = hc
 
 -- an attribute: a name of the form, and a text
 abbrev pub IsAttr : List ℕ × List ℕ → Type 0
-IsAttr pair = IsAttrName pair.0 × IsUtf8 pair.1
+IsAttr pair = IsTag pair.0 × IsUtf8 pair.1
 
 -- one more attribute
 attrs_more : (pairs : Pairs) (name text : List ℕ) → IsAttr (name, text) → AllByRecursion IsAttr pairs → AllByRecursion IsAttr (with_attr pairs name text)
@@ -57,13 +58,13 @@ attrs_more (p ∷ pairs) name text h all = all-match_ordering IsAttr (slice_cmp 
 -- a loop over members has read one attribute more
 pub attr_step : (done : List Entry) (e : Entry) (more : List Entry) (pairs new : Pairs) (name tag text : List ℕ) → IsStrictlySortedBy string_cmp (keys_of (done ++ e ∷ more))
     → (members_view done ≡ attrs_members pairs) × AllByRecursion IsAttr pairs → name ≡ string_bytes e.0
-    → (tag ≡ name) × IsAttrName name × (view e.1 ≡ string text) → IsUtf8 text → new ≡ with_attr pairs tag text
+    → (tag ≡ name) × IsTag name × (view e.1 ≡ string text) → IsUtf8 text → new ≡ with_attr pairs tag text
     → (members_view (done ++ e ∷ []) ≡ attrs_members new) × AllByRecursion IsAttr new
 attr_step done e more pairs new name tag text sorted so_far named read utf8 is =
     let tag_is : tag ≡ string_bytes e.0 = read.0 ∙ named in
     let new_is : new ≡ with_attr pairs (string_bytes e.0) text = is ∙ ap (λ (t : List ℕ). with_attr pairs t text) tag_is in (
       attr_last done e more pairs text sorted so_far.0 read.2 ∙ ap attrs_members (sym new_is),
-      subst (AllByRecursion IsAttr) (sym new_is) (attrs_more pairs (string_bytes e.0) text (subst IsAttrName named read.1, utf8) so_far.1),
+      subst (AllByRecursion IsAttr) (sym new_is) (attrs_more pairs (string_bytes e.0) text (subst IsTag named read.1, utf8) so_far.1),
     )
 
 -- the members before an item of a loop, the item, and those after it
@@ -85,13 +86,13 @@ attrs_same (p ∷ pairs) (q ∷ others) same =
     rw (left, right, tail) refl
 
 -- a member that is an attribute has a name of the form and a text
-pub attr_here : (done : List Entry) (e : Entry) (more : List Entry) (pairs : Pairs) → members_view (done ++ e ∷ more) ≡ attrs_members pairs → AreAttrs pairs
-    → (text : List ℕ) × IsAttrName (string_bytes e.0) × (view e.1 ≡ string text)
+pub attr_here : (done : List Entry) (e : Entry) (more : List Entry) (pairs : Pairs) → members_view (done ++ e ∷ more) ≡ attrs_members pairs → AreNames pairs
+    → (text : List ℕ) × IsTag (string_bytes e.0) × (view e.1 ≡ string text)
 attr_here [] e more [] same named = absurd (cc)
 attr_here [] e more (p ∷ pairs) same named =
     let name : p.0 ≡ string_bytes e.0 = cc in
     let is : view e.1 ≡ string p.1 = cc in
-    (p.1, subst IsAttrName name named.0, is)
+    (p.1, subst IsTag name named.0, is)
 attr_here (d ∷ done) e more [] same named = absurd (cc)
 attr_here (d ∷ done) e more (p ∷ pairs) same named =
     let rest : members_view (done ++ e ∷ more) ≡ attrs_members pairs = cc in
@@ -121,7 +122,7 @@ names_rise (e ∷ es) (p ∷ pairs) same h =
     (names_after p.0 e.0 es pairs first rest h.0, names_rise es pairs rest h.1)
 
 -- the names, and the texts
-pub names_of : (pairs : Pairs) → AllByRecursion IsAttr pairs → AreAttrs pairs
+pub names_of : (pairs : Pairs) → AllByRecursion IsAttr pairs → AreNames pairs
 names_of [] each = tt
 names_of (p ∷ pairs) each = (each.0.0, names_of pairs each.1)
 

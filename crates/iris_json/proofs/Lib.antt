@@ -2,6 +2,7 @@ pub mod AttrReading
 pub mod ChangeReading
 pub mod CityReading
 pub mod CityNodes
+pub mod CityLocals
 pub mod CityWriting
 pub mod KindReading
 pub mod LabelReading
@@ -9,5 +10,7 @@ pub mod LineReading
 pub mod Extents
 pub mod MemberKeys
 pub mod NodeReading
+pub mod PlainReading
+pub mod PlainWriting
 pub mod Written
 pub mod TextValues

@@ -1,10 +1,9 @@
 -- From an object to the bytes that are its text, and from its members to the line that it is.
-use Rattle.std.proofs.Common.{◌≡◌, ℕ, Bool, true, false, ◌&&◌, List, [], ◌∷◌, Ordering, Less, Equal, Greater, nat_cmp, bytes_eq, codes, map, Option, Some, None, option_and_then, Result, Ok, Err, IfOk, IfErr, refl, ap, sym, ◌∙◌, subst}
-use Rattle.std.specs.Cmp.Lexicographic.{slice_cmp, nat_list_eq_equiv}
+use Rattle.std.proofs.Common.{◌≡◌, ℕ, Bool, true, false, ◌&&◌, List, [], ◌∷◌, Ordering, Less, Equal, Greater, nat_cmp, codes, Option, Some, None, option_and_then, Result, Ok, Err, IfOk, IfErr, refl, ap, sym, ◌∙◌, subst}
+use Rattle.std.specs.Cmp.Lexicographic.{slice_cmp}
 use Rattle.std.specs.Ordering.{match_ordering}
 use Rattle.std.proofs.lemmas.Map.Lookups.{exact_bytes}
 use Rattle.serde_json.specs.Data.{Num, Data, null, boolean, number, string, array, object, Items, Members, no_members, member}
-use Rattle.serde_json.specs.View.{items_of}
 use Rattle.serde_json.specs.Find.{as_object, as_str, as_number, get, get_member}
 use Rattle.iris_base.specs.declared.name.Label.{Label}
 use Rattle.iris_base.specs.declared.error.NameError.{NameError}
@@ -12,8 +11,6 @@ use Rattle.iris_base.specs.declared.error.NameError.TheVariants as name_errors
 use Rattle.iris_base.specs.NameText.{name_text, IsName}
 use Rattle.iris_base.proofs.NameReading.{name_text_once}
 use Rattle.iris_tree.specs.declared.change.Change.{Change}
-use Rattle.iris_tree.specs.declared.change.Change.TheVariants.{Attr, Drop}
-use Rattle.iris_tree.specs.Changes.{change_data}
 use Rattle.iris_json.specs.declared.line.Line.{Line}
 use Rattle.iris_json.specs.declared.line.Line.TheVariants.{Query, Update, Audit, Now, Settle}
 use Rattle.iris_json.specs.declared.line.LineError.{LineError}
@@ -21,22 +18,16 @@ use Rattle.iris_json.specs.declared.line.LineError.TheVariants.{NotJson, BadLine
 use Rattle.iris_json.specs.declared.line.LineWhy.{LineWhy}
 use Rattle.iris_json.specs.declared.line.LineWhy.TheVariants as whys
 use Rattle.iris_json.specs.Errors.{name_error}
-use Rattle.iris_json.specs.Lines.{IsJson, is_among, all_among, has_only, Does, TextAt, NumberAt, ListAt, IsUpdate, IsMoment, a_query, an_update, an_audit, a_moment, a_settle, HasNames, HasNumbers, HasWhole, IsWhole, HasChanges, AreLineChanges, SaysLine, IsLine, LineLacks, ReadsLine, GivesLine, RefusesValue, RefusesLine, RefusesLinePart}
+use Rattle.iris_json.specs.Objects.{is_among, all_among, has_only, TextAt, NumberAt, ListAt}
+use Rattle.iris_json.specs.Lines.{IsJson, Does, IsUpdate, IsMoment, a_query, an_update, an_audit, a_moment, a_settle, HasNames, HasNumbers, HasWhole, IsWhole, HasChanges, AreLineChanges, SaysLine, IsLine, LineLacks, ReadsLine, GivesLine, RefusesValue, RefusesLine, RefusesLinePart}
+use Rattle.iris_json.proofs.ChangeReading.{line_changes_once}
+use Rattle.iris_json.proofs.MemberKeys.{object_of, differ}
 
 -- ---- the bytes
 
 -- a text has one value
 pub json_unique : (bytes : List ℕ) (d e : Data) → IsJson bytes d → IsJson bytes e → d ≡ e
 json_unique bytes d e h k = cc (h.1, k.1)
-
--- a value with members is the object of these members
-pub object_of : (d : Data) (ms : Members) → Some ms ≡ as_object d → d ≡ object ms
-object_of null ms h = absurd (cc)
-object_of (boolean b) ms h = absurd (cc)
-object_of (number n) ms h = absurd (cc)
-object_of (string s) ms h = absurd (cc)
-object_of (array ds) ms h = absurd (cc)
-object_of (object ns) ms h = cc
 
 -- a text at a key is one there
 pub text_there : (o : Option Data) (text : List ℕ) → Some text ≡ option_and_then as_str o → o ≡ Some (string text)
@@ -163,7 +154,7 @@ is_update d text n items name value changes update is same whole are = record {
   names = update_names d text n items name update is same;
   numbers = update_numbers d text n items value update whole;
   changes = changed d items changes update.changes_at are;
-  says = (update.form.does, is, subst (TextAt (codes "name") d) same update.name_at, subst (NumberAt (codes "no") d) whole.is update.number_at, update.changes_at ∙ ap (λ (x : Data). Some x) are.are);
+  says = (update.form.does, is, subst (TextAt (codes "name") d) same update.name_at, subst (NumberAt (codes "no") d) whole.is update.number_at, (items, update.changes_at, are));
 }
 
 -- ---- what is of its form and lacks something else
@@ -200,24 +191,6 @@ update_changes_refused d text n items name value Memory update is same whole h =
 
 -- ---- one line at most
 
-change_once : (a b : Change) → change_data a ≡ change_data b → a ≡ b
-change_once (Attr n v) (Attr m w) e =
-    let first : n ≡ m = cc in
-    let second : v ≡ w = cc in
-    ap (λ (x : List ℕ). Attr x v) first ∙ ap (λ (x : List ℕ). Attr m x) second
-change_once (Attr n v) (Drop m) e = absurd (cc)
-change_once (Drop n) (Attr m w) e = absurd (cc)
-change_once (Drop n) (Drop m) e = let first : n ≡ m = cc in ap (λ (x : List ℕ). Drop x) first
-
-changes_once : (xs ys : List Change) → items_of (map change_data xs) ≡ items_of (map change_data ys) → xs ≡ ys
-changes_once [] [] e = refl
-changes_once [] (y ∷ ys) e = absurd (cc)
-changes_once (x ∷ xs) [] e = absurd (cc)
-changes_once (x ∷ xs) (y ∷ ys) e =
-    let first : change_data x ≡ change_data y = cc in
-    let rest : items_of (map change_data xs) ≡ items_of (map change_data ys) = cc in
-    rw (change_once x y first, changes_once xs ys rest) refl
-
 said : Line → List ℕ
 said (Query query) = codes "query"
 said (Update name n changes) = codes "update"
@@ -236,9 +209,6 @@ does_said d Settle h = h
 same_word : (d : Data) (v w : List ℕ) → Does v d → Does w d → v ≡ w
 same_word d v w h k = cc (h, k)
 
-differ : (v w : List ℕ) → v ≡ w → bytes_eq v w ≡ false → ⊥
-differ v w same apart = let equal : bytes_eq v w ≡ true = subst (λ (x : List ℕ). bytes_eq v x ≡ true) same (nat_list_eq_equiv.refl v) in absurd (cc (equal, apart))
-
 says_once : (d : Data) (a b : Line) → SaysLine d a → SaysLine d b → a ≡ b
 unfolding said
 says_once d (Query query) (Query other) h k = let e : query ≡ other = cc (h.1, k.1) in ap (λ (x : List ℕ). Query x) e
@@ -246,8 +216,9 @@ says_once d (Update name n changes) (Update called m others) h k =
     let texts : name_text name ≡ name_text called = cc (h.2, k.2) in
     let names : name ≡ called = name_text_once name called h.1 k.1 texts in
     let numbers : n ≡ m = cc (h.3, k.3) in
-    let items : items_of (map change_data changes) ≡ items_of (map change_data others) = cc (h.4, k.4) in
-    ap (λ (x : List Label). Update x n changes) names ∙ ap (λ (x : ℕ). Update called x changes) numbers ∙ ap (λ (x : List Change). Update called m x) (changes_once changes others items)
+    let lists : h.4.0 ≡ k.4.0 = cc (h.4.1, k.4.1) in
+    let same : changes ≡ others = line_changes_once h.4.0 k.4.0 changes others lists h.4.2 k.4.2 in
+    ap (λ (x : List Label). Update x n changes) names ∙ ap (λ (x : ℕ). Update called x changes) numbers ∙ ap (λ (x : List Change). Update called m x) same
 says_once d (Audit query) (Audit other) h k = let e : query ≡ other = cc (h.1, k.1) in ap (λ (x : List ℕ). Audit x) e
 says_once d (Now at) (Now other) h k = let e : at ≡ other = cc (h.1, k.1) in ap (λ (x : ℕ). Now x) e
 says_once d Settle Settle h k = refl

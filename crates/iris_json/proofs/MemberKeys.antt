@@ -1,9 +1,12 @@
 -- The members of an object, and the keys that it may have.
-use Rattle.std.proofs.Common.{◌≡◌, ℕ, List, [], ◌∷◌, ◌||◌, refl, ap, map, String, Global, Bor, bytes_eq, string_bytes}
+use Rattle.std.proofs.Common.{◌≡◌, ℕ, true, false, List, [], ◌∷◌, ◌||◌, Some, refl, ap, subst, map, String, Global, Bor, bytes_eq, string_bytes}
+use Rattle.std.specs.Cmp.Lexicographic.{nat_list_eq_equiv}
 use Rattle.std.specs.List.{list_any, list_all}
 use Rattle.serde_json.specs.declared.value.Value.{Value}
+use Rattle.serde_json.specs.Data.{Data, null, boolean, number, string, array, object, Members}
+use Rattle.serde_json.specs.Find.{as_object}
 use Rattle.serde_json.specs.View.{members_view}
-use Rattle.iris_json.specs.Lines.{is_among, all_among}
+use Rattle.iris_json.specs.Objects.{is_among, all_among}
 
 -- a test of the texts that references lead to
 any_of_texts : (key : List ℕ) (known : List (Bor (List ℕ))) → list_any (λ (k : Bor (List ℕ)). bytes_eq k.now key) known ≡ is_among (map (λ (k : Bor (List ℕ)). k.now) known) key
@@ -16,3 +19,16 @@ pub all_of_keys : (known : List (Bor (List ℕ))) (es : List (String Global × V
     ≡ all_among (map (λ (k : Bor (List ℕ)). k.now) known) (members_view es)
 all_of_keys known [] = refl
 all_of_keys known (e ∷ es) = rw (any_of_texts (string_bytes e.0) known, all_of_keys known es) refl
+
+-- a value with members is the object of these members
+pub object_of : (d : Data) (ms : Members) → Some ms ≡ as_object d → d ≡ object ms
+object_of null ms h = absurd (cc)
+object_of (boolean b) ms h = absurd (cc)
+object_of (number n) ms h = absurd (cc)
+object_of (string s) ms h = absurd (cc)
+object_of (array ds) ms h = absurd (cc)
+object_of (object ns) ms h = cc
+
+-- two words that a test tells apart
+pub differ : (v w : List ℕ) → v ≡ w → bytes_eq v w ≡ false → ⊥
+differ v w same apart = let equal : bytes_eq v w ≡ true = subst (λ (x : List ℕ). bytes_eq v x ≡ true) same (nat_list_eq_equiv.refl v) in absurd (cc (equal, apart))

@@ -1,24 +1,23 @@
 -- From a JSON value to a node: its children are read one after another, and put in the order of labels.
-use Rattle.std.proofs.Common.{◌≡◌, ℕ, zero, suc, ◌+◌, ◌<◌, ◌≤◌, max, inl, inr, Ordering, Less, Equal, Greater, nat_cmp, codes, List, [], ◌∷◌, ◌++◌, length, take, get_or, Option, Some, refl, ap, sym, ◌∙◌, subst, arith}
-use Rattle.std.specs.Cmp.Lexicographic.{slice_cmp}
-use Rattle.std.specs.Ordering.{match_ordering}
+use Rattle.std.proofs.Common.{◌≡◌, ℕ, zero, suc, ◌+◌, ◌<◌, ◌≤◌, codes, List, [], ◌∷◌, ◌++◌, length, take, get_or, Some, refl, ap, sym, ◌∙◌, subst, arith}
 use Rattle.std.proofs.lemmas.List.{take_more, take_all}
 use Rattle.serde_json.specs.declared.value.Value.{Value}
-use Rattle.serde_json.specs.Data.{Data, object, Members, no_members, member, Items, no_items, item, depth, items_depth, members_depth}
-use Rattle.serde_json.specs.Find.{as_object, get_member}
+use Rattle.serde_json.specs.Data.{Data, object, Members, Items, no_items, item}
+use Rattle.serde_json.specs.Find.{as_object}
 use Rattle.serde_json.specs.View.{view, items_view}
 use Rattle.iris_base.specs.declared.name.Label.{Label}
 use Rattle.iris_tree.specs.declared.local.Local.{Local}
+use Rattle.iris_tree.specs.declared.plain.Plain.{Plain}
 use Rattle.iris_tree.specs.Attrs.{Pairs}
-use Rattle.iris_tree.specs.LocalText.{attrs_members}
 use Rattle.iris_tree.specs.NodeCode.{nodes_of-list_of}
 use Rattle.iris_tree.specs.Siblings.{HaveDistinctLabels, IsLabelOrder}
 use Rattle.iris_tree.specs.Universe.{Node, node, Nodes, nodes_of, list_of, label_of, local_of, children_of}
 use Rattle.iris_tree.proofs.Siblings.{list_of-nodes_of, label_order_once, label_order_distinct}
-use Rattle.iris_json.specs.CityForm.{EachHoldsTexts, EachOwns, HoldsTexts}
-use Rattle.iris_json.specs.CityLine.{LabelAt, AttrsAt, LocalAt, OwnAt, NodesAt, IsNode, is_node, AreNodes, none, more}
-use Rattle.iris_json.proofs.AttrReading.{attrs_same}
-use Rattle.iris_json.proofs.LineReading.{object_of}
+use Rattle.iris_json.specs.CityForm.{EachLocalForm, AllLocalForms}
+use Rattle.iris_json.specs.CityLine.{LabelAt, LocalAt, OwnAt, NodesAt, IsNode, is_node, AreNodes, none, more}
+use Rattle.iris_json.specs.PlainLine.{AttrsAt, PlainsAt}
+use Rattle.iris_json.proofs.PlainReading.{attrs_once, items_once, plains_at_once}
+use Rattle.iris_json.proofs.MemberKeys.{object_of}
 
 -- ---- a node by its parts
 
@@ -80,34 +79,26 @@ label_once kinds d l m h k =
     let fields : ◌≡◌ {A = Label} (record { kind = l.kind; id = l.id }) (record { kind = m.kind; id = m.id }) = rw (first, second) refl in
     fields
 
-attrs_once : (d : Data) (pairs others : Pairs) → AttrsAt d pairs → AttrsAt d others → pairs ≡ others
-attrs_once d pairs others (inl h, named) (inl k, also) = let same : attrs_members pairs ≡ attrs_members others = cc (h, k) in attrs_same pairs others same
-attrs_once d pairs others (inl h, named) (inr k, also) = absurd (cc (h, k.0))
-attrs_once d pairs others (inr h, named) (inl k, also) = absurd (cc (h.0, k))
-attrs_once d pairs others (inr h, named) (inr k, also) = h.1 ∙ sym k.1
-
-local_once : (d : Data) (k l : Local) → LocalAt d k → LocalAt d l → k ≡ l
-local_once d k l h g =
-    let first : k.attrs ≡ l.attrs = attrs_once d k.attrs l.attrs h.0 g.0 in
-    let second : k.plain ≡ l.plain = h.1 ∙ sym g.1 in
-    let fields : ◌≡◌ {A = Local} (record { attrs = k.attrs; plain = k.plain }) (record { attrs = l.attrs; plain = l.plain }) = rw (first, second) refl in
+-- local information of these parts is the one that the value has
+pub local_is : (kinds : List (List ℕ)) (d : Data) (attrs : Pairs) (plain : List Plain) → AttrsAt d attrs → PlainsAt d plain → (local : Local) → LocalAt kinds d local → ◌≡◌ {A = Local} (record { attrs = attrs; plain = plain }) local
+local_is kinds d attrs plain at also local is =
+    let first : attrs ≡ local.attrs = attrs_once d attrs local.attrs at is.attrs_at in
+    let second : plain ≡ local.plain = plains_at_once d plain local.plain also is.plain_at in
+    let fields : ◌≡◌ {A = Local} (record { attrs = attrs; plain = plain }) (record { attrs = local.attrs; plain = local.plain }) = rw (first, second) refl in
     fields
 
-items_once : (d : Data) (items others : Items) → NodesAt d items → NodesAt d others → items ≡ others
-items_once d items others (inl h) (inl k) = cc (h, k)
-items_once d items others (inl h) (inr k) = absurd (cc (h, k.0))
-items_once d items others (inr h) (inl k) = absurd (cc (h.0, k))
-items_once d items others (inr h) (inr k) = h.1 ∙ sym k.1
+local_once : (kinds : List (List ℕ)) (d : Data) (k l : Local) → LocalAt kinds d k → LocalAt kinds d l → k ≡ l
+local_once kinds d k l h g = local_is kinds d k.attrs k.plain h.attrs_at h.plain_at l g
 
 -- a value is one node at most
 mutual
   pub node_once : (kinds : List (List ℕ)) (d : Data) (m n : Node) → IsNode kinds d m → IsNode kinds d n → m ≡ n
   node_once kinds d m n (is_node same label local items given ordered own at are order) is =
       let p = parts kinds d n is in
-      let items_are : p.0 ≡ items = items_once d p.0 items p.3 at in
+      let items_are : p.0 ≡ items = items_once (codes "nodes") d p.0 items p.3 at in
       let given_is : given ≡ p.1 = nodes_once kinds items given p.1 are (subst (λ (ds : Items). AreNodes kinds ds p.1) items_are p.4) in
       let children : ordered ≡ children_of n = label_order_once p.1 ordered (children_of n) (subst (λ (ns : List Node). IsLabelOrder ns ordered) given_is order) p.5 in
-      same_node (node label local (nodes_of ordered)) n (label_once kinds d label (label_of n) own.1 p.2.1) (local_once d local (local_of n) own.2 p.2.2) (list_of-nodes_of ordered ∙ children)
+      same_node (node label local (nodes_of ordered)) n (label_once kinds d label (label_of n) own.1 p.2.1) (local_once kinds d local (local_of n) own.2 p.2.2) (list_of-nodes_of ordered ∙ children)
 
   pub nodes_once : (kinds : List (List ℕ)) (items : Items) (ms ns : List Node) → AreNodes kinds items ms → AreNodes kinds items ns → ms ≡ ns
   nodes_once kinds items ms ns none are = sym (split kinds no_items ns are)
@@ -122,51 +113,26 @@ mutual
 -- the first i of these values are the nodes ns
 pub record ReadSo (kinds : List (List ℕ)) (items : List Value) (i : ℕ) (ns : List Node) : Type 0 where
   pub are : AreNodes kinds (items_view (take i items)) ns
-  pub texts : EachOwns HoldsTexts (nodes_of ns)
+  pub form : AllLocalForms (nodes_of ns)
 
 pub so_start : (kinds : List (List ℕ)) (items : List Value) (ns : List Node) → ns ≡ [] → ReadSo kinds items 0 ns
-so_start kinds items [] alone = record { are = none; texts = tt }
+so_start kinds items [] alone = record { are = none; form = tt }
 so_start kinds items (n ∷ ns) alone = absurd (cc)
 
-texts_more : (ns : List Node) (n : Node) → EachOwns HoldsTexts (nodes_of ns) → EachHoldsTexts n → EachOwns HoldsTexts (nodes_of (ns ++ n ∷ []))
-texts_more [] n all one = (one, tt)
-texts_more (m ∷ ns) n all one = (all.0, texts_more ns n all.1 one)
+forms_more : (ns : List Node) (n : Node) → AllLocalForms (nodes_of ns) → EachLocalForm n → AllLocalForms (nodes_of (ns ++ n ∷ []))
+forms_more [] n all one = (one, tt)
+forms_more (m ∷ ns) n all one = (all.0, forms_more ns n all.1 one)
 
 -- one child more
 pub so_step : (kinds : List (List ℕ)) (items : List Value) (i : ℕ) (ns : List Node) → ReadSo kinds items i ns → (v : Value) → i < length items → v ≡ get_or items i v
-    → (n : Node) → IsNode kinds (view v) n → EachHoldsTexts n → (new : List Node) → new ≡ ns ++ n ∷ [] → ReadSo kinds items (i + 1) new
-so_step kinds items i ns s v within is n one texts new made =
+    → (n : Node) → IsNode kinds (view v) n → EachLocalForm n → (new : List Node) → new ≡ ns ++ n ∷ [] → ReadSo kinds items (i + 1) new
+so_step kinds items i ns s v within is n one form new made =
     let before : take i items ++ v ∷ [] ≡ take (i + 1) items = ap (λ (x : Value). take i items ++ x ∷ []) is ∙ sym (take_more items i v within) in
     let are = subst (λ (vs : List Value). AreNodes kinds (items_view vs) (ns ++ n ∷ [])) before (nodes_more kinds (take i items) v ns n s.are one) in
     record {
       are = subst (AreNodes kinds (items_view (take (i + 1) items))) (sym made) are;
-      texts = subst (λ (ms : List Node). EachOwns HoldsTexts (nodes_of ms)) (sym made) (texts_more ns n s.texts texts);
+      form = subst (λ (ms : List Node). AllLocalForms (nodes_of ms)) (sym made) (forms_more ns n s.form form);
     }
-
--- ---- each child is less deep than the value that it is in
-
-shallow_step : (o : Ordering) (later : Option Data) (e d : Data) (most : ℕ) → match_ordering o later (Some e) later ≡ Some d → (later ≡ Some d → depth d ≤ most) → depth d ≤ max (depth e) most
-shallow_step Less later e d most h rest = omega (arith, rest h)
-shallow_step Equal later e d most h rest = let same : e ≡ d = cc in omega (arith, ap depth same)
-shallow_step Greater later e d most h rest = omega (arith, rest h)
-
-shallow_member : (ms : Members) (d : Data) → get_member (codes "nodes") ms ≡ Some d → depth d ≤ members_depth ms
-shallow_member no_members d h = absurd (cc)
-shallow_member (member k e ms) d h = shallow_step (slice_cmp nat_cmp (codes "nodes") k) (get_member (codes "nodes") ms) e d (members_depth ms) h (shallow_member ms d)
-
-shallow_item : (vs : List Value) (i : ℕ) (v : Value) → i < length vs → depth (view (get_or vs i v)) ≤ items_depth (items_view vs)
-shallow_item [] i v within = absurd (omega arith)
-shallow_item (x ∷ vs) zero v within = omega arith
-shallow_item (x ∷ vs) (suc i) v within = omega (arith, shallow_item vs i v (omega arith))
-
-shallow_nodes : (ms : Members) (vs : List Value) (i : ℕ) (v : Value) → NodesAt (object ms) (items_view vs) → i < length vs → suc (depth (view (get_or vs i v))) ≤ members_depth ms
-shallow_nodes ms vs i v (inl at) within = omega (arith, shallow_member ms _ at, shallow_item vs i v within)
-shallow_nodes ms [] i v (inr at) within = absurd (omega arith)
-shallow_nodes ms (x ∷ vs) i v (inr at) within = absurd (cc (at.1))
-
--- as the loop over the children knows them
-pub less_deep : (t : ℕ) (d : Data) (ms : Members) (vs : List Value) (i : ℕ) (v : Value) → Some ms ≡ as_object d → NodesAt (object ms) (items_view vs) → i < length vs → v ≡ get_or vs i v → depth d ≡ t → depth (view v) < t
-less_deep t d ms vs i v o at within is whole = omega (arith, whole, ap depth (object_of d ms o), ap (λ (x : Value). depth (view x)) is, shallow_nodes ms vs i v at within)
 
 -- ---- the ways out
 

@@ -13,7 +13,7 @@ use Rattle.iris_tree.specs.Universe.{Node, node, Nodes, no_nodes, nodes, label_o
 use Rattle.iris_tree.specs.declared.item.Item.{Item}
 use Rattle.iris_json.specs.declared.city.City.{City}
 use Rattle.iris_json.specs.CityLine.{texts_data}
-use Rattle.iris_json.specs.CityText.{without_plain, items_without_plain, places_data, city_data}
+use Rattle.iris_json.specs.CityText.{places_data, city_data}
 use Rattle.iris_json.specs.Render.{node_data, nodes_data, element_data, item_data}
 use Rattle.iris_json.specs.declared.row.Field.{Field}
 use Rattle.iris_json.specs.Rows.{members_of, row_data, field_data, fields_of}
@@ -63,26 +63,10 @@ node_written (node label local below) =
     (nodes_written below (Token.key (codes "plain") ∷ Token.begin_array ∷ (items_tokens (items_outline (items_of (map plain_data local.plain))) ++ Token.end_object ∷ []))
     ∙ ap (λ (ts : List Token). all_tokens node_data (list_of below) ++ (Token.end_array ∷ Token.key (codes "plain") ∷ Token.begin_array ∷ ts)) (items_written plain_data local.plain (Token.end_object ∷ [])))
 
--- the same without plain elements
-bares_written : (ns : Nodes) (ts : List Token) → items_tokens (items_outline (items_without_plain (nodes_data ns))) ++ ts ≡ all_tokens (λ n. without_plain (node_data n)) (list_of ns) ++ Token.end_array ∷ ts
-unfolding value_tokens
-bares_written no_nodes ts = refl
-bares_written (nodes n ns) ts = rw (append_assoc (value_tokens (without_plain (node_data n))) (items_tokens (items_outline (items_without_plain (nodes_data ns)))) ts, bares_written ns ts, append_assoc (value_tokens (without_plain (node_data n))) (all_tokens (λ m. without_plain (node_data m)) (list_of ns)) (Token.end_array ∷ ts)) refl
-
-pub bare_written : (n : Node) → value_tokens (without_plain (node_data n))
-    ≡ Token.begin_object ∷ Token.key (codes "attrs") ∷ (value_tokens (attrs_data (local_of n).attrs)
-    ++ (Token.key (codes "id") ∷ Token.string (label_of n).id ∷ Token.key (codes "kind") ∷ Token.string (label_of n).kind ∷ Token.key (codes "nodes") ∷ Token.begin_array ∷ (all_tokens (λ m. without_plain (node_data m)) (children_of n)
-    ++ (Token.end_array ∷ Token.end_object ∷ []))))
-unfolding value_tokens
-bare_written (node label local below) =
-    ap (λ (ts : List Token). Token.begin_object ∷ Token.key (codes "attrs") ∷ (value_tokens (attrs_data local.attrs)
-    ++ (Token.key (codes "id") ∷ Token.string label.id ∷ Token.key (codes "kind") ∷ Token.string label.kind ∷ Token.key (codes "nodes") ∷ Token.begin_array ∷ ts)))
-    (bares_written below (Token.end_object ∷ []))
-
 -- a city
 pub city_written : (city : City) → value_tokens (city_data city)
     ≡ Token.begin_object ∷ Token.key (codes "agents") ∷ (value_tokens (texts_data city.agents) ++ (Token.key (codes "kinds") ∷ (value_tokens (texts_data city.kinds)
-    ++ (Token.key (codes "place") ∷ (value_tokens (places_data city.place) ++ (Token.key (codes "tree") ∷ (value_tokens (without_plain (node_data city.tree)) ++ Token.end_object ∷ [])))))))
+    ++ (Token.key (codes "place") ∷ (value_tokens (places_data city.place) ++ (Token.key (codes "tree") ∷ (value_tokens (node_data city.tree) ++ Token.end_object ∷ [])))))))
 unfolding value_tokens
 city_written city = refl
 

@@ -1,19 +1,18 @@
 -- What a city keeps to, beside any text of it: its kinds, and its nodes.
-use Rattle.std.specs.Prelude.{◌≡◌, ℕ, zero, suc, ◌<◌, ◌≤◌, false, true, ⊤, List, length, codes}
+use Rattle.std.specs.Prelude.{◌≡◌, ℕ, zero, suc, ◌<◌, ◌≤◌, false, true, ⊤, List, length}
 use Rattle.std.specs.List.{AllByRecursion, IsDistinct, list_any}
-use Rattle.std.specs.List.Sorted.{IsStrictlySortedBy}
-use Rattle.std.specs.Map.{keys_of}
-use Rattle.std.specs.Ordering.{nat_cmp}
-use Rattle.std.specs.Cmp.Lexicographic.{slice_cmp}
-use Rattle.std.specs.Str.{bytes_eq, IsUtf8}
+use Rattle.std.specs.Str.{bytes_eq}
 use Rattle.std.proofs.Props.{props}
-use Rattle.iris_base.specs.declared.limits.TheConstants.{MAX_KINDS, MAX_ATTRIBUTES, MAX_LOCAL_BYTES, MAX_CHILDREN}
+use Rattle.iris_base.specs.declared.limits.TheConstants.{MAX_KINDS, MAX_CHILDREN}
 use Rattle.iris_base.specs.declared.name.Label.{Label}
-use Rattle.iris_base.specs.Forms.{IsKind, IsId, IsTag}
+use Rattle.iris_base.specs.Forms.{IsKind, IsId}
 use Rattle.iris_tree.specs.declared.local.Local.{Local}
-use Rattle.iris_tree.specs.Attrs.{Pairs}
-use Rattle.iris_tree.specs.LocalText.{local_text}
+use Rattle.iris_tree.specs.Changes.{fits}
+use Rattle.iris_tree.specs.NamesId.{NamesNoId}
+use Rattle.iris_tree.specs.PlainOrder.{IsCanonical}
 use Rattle.iris_tree.specs.Universe.{Node, node, Nodes, no_nodes, nodes, list_of}
+use Rattle.iris_json.specs.PlainForm.{AreNames, AreTexts, ArePlainForms}
+use Rattle.iris_tree.specs.NamesKind.{plains_name_kind}
 
 -- some different kinds, and no more than a city may have
 pub record AreKinds (kinds : List (List ℕ)) : Type 0 where
@@ -22,28 +21,17 @@ pub record AreKinds (kinds : List (List ℕ)) : Type 0 where
   pub each : AllByRecursion IsKind kinds
   pub differ : IsDistinct bytes_eq kinds
 
--- the name of an attribute: of its form, and not `id`
-abbrev pub IsAttrName : List ℕ → Type 0
-IsAttrName name = IsTag name × (bytes_eq name (codes "id") ≡ false)
-
--- the names of attributes are of their form
-abbrev pub AreAttrs : Pairs → Type 0
-AreAttrs = AllByRecursion (λ p. IsAttrName p.0)
-
--- attributes in the order of their names, with texts as their values
-pub record AreTexts (pairs : Pairs) : Type 0 where
-  pub rise : IsStrictlySortedBy (slice_cmp nat_cmp) (keys_of pairs)
-  pub utf8 : AllByRecursion (λ p. IsUtf8 p.1) pairs
-
--- what a node of a city is called and holds itself: it is of one of the kinds, has no more attributes than it may have, and no plain elements, and its canonical text is short
+-- what a node of a city is called and holds itself: it is of one of the kinds; its attributes and plain elements are of their form, none of them named `id` and none of a tag that is a kind; the plain elements stand in the order of their texts at every depth; and no limit is passed
 pub record IsCityOwn (kinds : List (List ℕ)) (label : Label) (local : Local) : Type 0 where
   pub kind : list_any (bytes_eq label.kind) kinds ≡ true
   pub id : IsId label.id
-  pub attrs : AreAttrs local.attrs
+  pub names : AreNames local.attrs
   pub texts : AreTexts local.attrs
-  pub few : length local.attrs ≤ MAX_ATTRIBUTES
-  pub no_plain : length local.plain ≡ 0
-  pub short : length (local_text local) ≤ MAX_LOCAL_BYTES
+  pub plain : ArePlainForms local.plain
+  pub no_id : NamesNoId local
+  pub no_kind : plains_name_kind kinds local.plain ≡ false
+  pub canonical : IsCanonical local
+  pub fits : fits local ≡ true
 
 -- what each node of a tree is called and holds itself is such
 abbrev mutual
@@ -55,13 +43,19 @@ abbrev mutual
   EachOwns Such no_nodes = ⊤
   EachOwns Such (nodes n ns) = EachOwn Such n × EachOwns Such ns
 
--- what a node holds itself: attributes in order, with texts as their values
-abbrev pub HoldsTexts : Label → Local → Type 0
-HoldsTexts label local = AreTexts local.attrs
+-- the form of what a node holds itself, as each reader of one keeps it: attributes in the order of their names, plain elements of their form in the order of their texts
+pub record IsLocalForm (local : Local) : Type 0 where
+  pub attrs : AreTexts local.attrs
+  pub plain : ArePlainForms local.plain
+  pub canonical : IsCanonical local
 
--- the attributes of each node of a tree are in order, with texts as their values
-abbrev pub EachHoldsTexts : Node → Type 0
-EachHoldsTexts = EachOwn HoldsTexts
+-- what each node of a tree holds is of that form
+abbrev pub EachLocalForm : Node → Type 0
+EachLocalForm = EachOwn (λ label local. IsLocalForm local)
+
+-- what each node of these trees holds is
+abbrev pub AllLocalForms : Nodes → Type 0
+AllLocalForms = EachOwns (λ label local. IsLocalForm local)
 
 -- a node of a city, with at most so many levels of nodes and no more children than each may have
 abbrev mutual

@@ -1,5 +1,5 @@
 -- The city line, as a relation between bytes and what a city holds, and why bytes are none.
-use Rattle.std.specs.Prelude.{◌≡◌, ◌⊎◌, ℕ, ◌<◌, ◌≤◌, true, Contains, List, [], ◌∷◌, map, length, codes, Some, None, Result, Ok, Err}
+use Rattle.std.specs.Prelude.{◌≡◌, ◌⊎◌, ℕ, ◌<◌, ◌≤◌, false, true, Contains, List, [], ◌∷◌, map, length, codes, Some, None, Result, Ok, Err}
 use Rattle.serde_json.specs.Data.{Data, string, array, Items, no_items, item}
 use Rattle.serde_json.specs.Find.{get}
 use Rattle.serde_json.specs.View.{items_of}
@@ -8,8 +8,7 @@ use Rattle.iris_base.specs.declared.name.Label.{Label}
 use Rattle.iris_base.specs.Forms.{IsId, IsAgentId}
 use Rattle.iris_base.specs.NameText.{name_text}
 use Rattle.iris_tree.specs.declared.local.Local.{Local}
-use Rattle.iris_tree.specs.Attrs.{Pairs}
-use Rattle.iris_tree.specs.LocalText.{attrs_data}
+use Rattle.iris_tree.specs.NamesId.{NamesNoId}
 use Rattle.iris_tree.specs.Siblings.{IsLabelOrder}
 use Rattle.iris_tree.specs.Universe.{Node, node, nodes_of, label_of}
 use Rattle.iris_json.specs.declared.city.City.{City}
@@ -20,9 +19,12 @@ use Rattle.iris_json.specs.declared.city.FormError.TheVariants.{Shape}
 use Rattle.iris_json.specs.declared.city.FormError.TheVariants as forms
 use Rattle.iris_json.specs.declared.out.Which.{Which}
 use Rattle.iris_json.specs.declared.out.Which.TheVariants.{Line}
-use Rattle.iris_json.specs.Lines.{IsJson, has_only}
-use Rattle.iris_json.specs.CityForm.{AreKinds, AreAttrs}
+use Rattle.iris_json.specs.Objects.{has_only}
+use Rattle.iris_json.specs.Lines.{IsJson}
+use Rattle.iris_json.specs.CityForm.{AreKinds}
 use Rattle.iris_json.specs.CityLimits.{passed_limit}
+use Rattle.iris_tree.specs.NamesKind.{plains_name_kind}
+use Rattle.iris_json.specs.PlainLine.{ItemsAt, AttrsAt, PlainsAt}
 
 -- a list of texts
 abbrev pub texts_data : List (List ℕ) → Data
@@ -36,17 +38,16 @@ KindsAt d kinds = (get (codes "kinds") d ≡ Some (texts_data kinds)) × AreKind
 abbrev pub AgentAt : Data → List ℕ → Type 0
 AgentAt d agent = (get (codes "agents") d ≡ Some (texts_data (agent ∷ []))) × IsAgentId agent
 
--- the attributes at the key `attrs`; absent means none
-abbrev pub AttrsAt : Data → Pairs → Type 0
-AttrsAt d pairs = ((get (codes "attrs") d ≡ Some (attrs_data pairs)) ⊎ ((get (codes "attrs") d ≡ None) × (pairs ≡ []))) × AreAttrs pairs
-
--- what a node holds itself: attributes and no plain elements
-abbrev pub LocalAt : Data → Local → Type 0
-LocalAt d local = AttrsAt d local.attrs × (local.plain ≡ [])
+-- what a node holds itself: attributes and plain elements, no attribute of them named `id`, and no tag that is a kind
+pub record LocalAt (kinds : List (List ℕ)) (d : Data) (local : Local) : Type 0 where
+  pub attrs_at : AttrsAt d local.attrs
+  pub plain_at : PlainsAt d local.plain
+  pub no_id : NamesNoId local
+  pub no_kind : plains_name_kind kinds local.plain ≡ false
 
 -- the list at the key `nodes`; absent means none
 abbrev pub NodesAt : Data → Items → Type 0
-NodesAt d items = (get (codes "nodes") d ≡ Some (array items)) ⊎ ((get (codes "nodes") d ≡ None) × (items ≡ no_items))
+NodesAt d items = ItemsAt (codes "nodes") d items
 
 -- the label at the keys `kind` and `id`, of one of the kinds
 abbrev pub LabelAt : List (List ℕ) → Data → Label → Type 0
@@ -54,7 +55,7 @@ LabelAt kinds d label = (get (codes "kind") d ≡ Some (string label.kind)) × (
 
 -- an object with the keys of a node, and the label and the local information in it
 abbrev pub OwnAt : List (List ℕ) → Data → Label → Local → Type 0
-OwnAt kinds d label local = (has_only (codes "kind" ∷ codes "id" ∷ codes "attrs" ∷ codes "nodes" ∷ []) d ≡ true) × LabelAt kinds d label × LocalAt d local
+OwnAt kinds d label local = (has_only (codes "kind" ∷ codes "id" ∷ codes "attrs" ∷ codes "plain" ∷ codes "nodes" ∷ []) d ≡ true) × LabelAt kinds d label × LocalAt kinds d local
 
 -- a value is a node: the nodes below it are those of its list, in the order of their labels
 mutual

@@ -1,16 +1,15 @@
 -- The lines of a script after the first, as a relation between bytes and lines.
-use Rattle.std.specs.Prelude.{◌≡◌, ℕ, ◌<◌, ◌≤◌, Bool, true, false, ◌&&◌, List, [], ◌∷◌, length, codes, Some, Result, Ok, Err}
-use Rattle.std.specs.List.{AllByRecursion, list_any}
-use Rattle.std.specs.Str.{bytes_eq, IsUtf8}
-use Rattle.serde_json.specs.Data.{Num, unsigned, Data, null, boolean, number, string, array, object, Items, no_items, item, Members, no_members, member}
+use Rattle.std.specs.Prelude.{◌≡◌, ℕ, ◌<◌, ◌≤◌, ⊤, true, List, [], ◌∷◌, length, codes, Some, Result, Ok, Err}
+use Rattle.std.specs.Str.{IsUtf8}
+use Rattle.serde_json.specs.Data.{Num, unsigned, Data, string, array, Items, no_items, item}
 use Rattle.serde_json.specs.Read.{read}
-use Rattle.serde_json.specs.Find.{get}
 use Rattle.iris_base.specs.declared.limits.TheConstants.{MAX_NUMBER, MAX_CHANGES}
 use Rattle.iris_base.specs.Forms.{IsTag}
 use Rattle.iris_base.specs.NameText.{name_text, IsName, IsNameText}
 use Rattle.iris_tree.specs.declared.change.Change.{Change}
-use Rattle.iris_tree.specs.declared.change.Change.TheVariants.{Attr, Drop}
-use Rattle.iris_tree.specs.Changes.{changes_data}
+use Rattle.iris_tree.specs.declared.change.Change.TheVariants.{Attr, Drop, Put}
+use Rattle.iris_json.specs.Objects.{has_only, TextAt, NumberAt, ListAt}
+use Rattle.iris_json.specs.PlainLine.{IsPlain}
 use Rattle.iris_json.specs.declared.line.Line.{Line}
 use Rattle.iris_json.specs.declared.line.Line.TheVariants.{Query, Update, Audit, Now, Settle}
 use Rattle.iris_json.specs.declared.line.LineWhy.{LineWhy}
@@ -22,37 +21,7 @@ use Rattle.iris_json.specs.declared.line.LineError.TheVariants.{NotJson, BadLine
 abbrev pub IsJson : List ℕ → Data → Type 0
 IsJson bytes d = IsUtf8 bytes × (read bytes ≡ Some d)
 
--- whether a key is one of these
-abbrev pub is_among : List (List ℕ) → List ℕ → Bool
-is_among keys key = list_any (λ known. bytes_eq known key) keys
-
--- whether each key of an object is one of these
-abbrev pub all_among : List (List ℕ) → Members → Bool
-all_among keys no_members = true
-all_among keys (member key d more) = is_among keys key && all_among keys more
-
--- an object with no key beside these
-abbrev pub has_only : List (List ℕ) → Data → Bool
-has_only keys null = false
-has_only keys (boolean b) = false
-has_only keys (number n) = false
-has_only keys (string s) = false
-has_only keys (array ds) = false
-has_only keys (object ms) = all_among keys ms
-
 -- ---- the form of a line
-
--- a value has that text at a key
-abbrev pub TextAt : List ℕ → Data → List ℕ → Type 0
-TextAt key d text = get key d ≡ Some (string text)
-
--- a value has that number at a key
-abbrev pub NumberAt : List ℕ → Data → Num → Type 0
-NumberAt key d n = get key d ≡ Some (number n)
-
--- a value has that list at a key
-abbrev pub ListAt : List ℕ → Data → Items → Type 0
-ListAt key d items = get key d ≡ Some (array items)
 
 -- what the line does
 abbrev pub Does : List ℕ → Data → Type 0
@@ -88,6 +57,16 @@ pub data HasLineShape (d : Data) : Type 0 where
   a_moment : (n : Num) → IsMoment d n → HasLineShape d
   a_settle : IsLineOf (codes "settle") [] d → HasLineShape d
 
+-- ---- short lists
+
+-- a list of two values
+abbrev pub pair_data : Data → Data → Data
+pair_data a b = array (item a (item b no_items))
+
+-- a list of three values
+abbrev pub triple_data : Data → Data → Data → Data
+triple_data a b c = array (item a (item b (item c no_items)))
+
 -- ---- its names, numbers and changes, where it has any
 
 -- the text at `name` is that of a name
@@ -108,17 +87,24 @@ HasWhole key least d = (n : Num) → NumberAt key d n → (value : ℕ) × IsWho
 abbrev pub HasNumbers : Data → Type 0
 HasNumbers d = HasWhole (codes "no") 1 d × HasWhole (codes "at") 0 d
 
--- the attribute's name is of its form; it may be `id`
-abbrev pub IsLineChange : Change → Type 0
-IsLineChange (Attr name value) = IsTag name
-IsLineChange (Drop name) = IsTag name
+-- a value is a change: a list of its word and what it names, sets or puts; the attribute's name may be `id`
+abbrev pub IsChange : Data → Change → Type 0
+IsChange d (Attr name value) = (d ≡ triple_data (string (codes "attr")) (string name) (string value)) × IsTag name
+IsChange d (Drop name) = (d ≡ pair_data (string (codes "drop")) (string name)) × IsTag name
+IsChange d (Put plain) = (value : Data) × (d ≡ pair_data (string (codes "put")) value) × IsPlain value plain
+
+-- each of these values is the change at its place of the list
+abbrev pub AreChanges : Items → List Change → Type 0
+AreChanges no_items [] = ⊤
+AreChanges no_items (c ∷ cs) = ⊥
+AreChanges (item d items) [] = ⊥
+AreChanges (item d items) (c ∷ cs) = IsChange d c × AreChanges items cs
 
 -- a list is that of these changes, some and no more than an update may have
 pub record AreLineChanges (items : Items) (changes : List Change) : Type 0 where
-  pub are : array items ≡ changes_data changes
+  pub are : AreChanges items changes
   pub some : 0 < length changes
   pub few : length changes ≤ MAX_CHANGES
-  pub each : AllByRecursion IsLineChange changes
 
 -- the list at `change` is one of changes
 abbrev pub HasChanges : Data → Type 0
@@ -129,7 +115,7 @@ HasChanges d = (items : Items) → ListAt (codes "change") d items → (changes 
 -- what a value says, whose form and parts are right
 abbrev pub SaysLine : Data → Line → Type 0
 SaysLine d (Query query) = Does (codes "query") d × TextAt (codes "query") d query
-SaysLine d (Update name n changes) = Does (codes "update") d × IsName name × TextAt (codes "name") d (name_text name) × NumberAt (codes "no") d (unsigned n) × (get (codes "change") d ≡ Some (changes_data changes))
+SaysLine d (Update name n changes) = Does (codes "update") d × IsName name × TextAt (codes "name") d (name_text name) × NumberAt (codes "no") d (unsigned n) × ((items : Items) × ListAt (codes "change") d items × AreLineChanges items changes)
 SaysLine d (Audit query) = Does (codes "audit") d × TextAt (codes "query") d query
 SaysLine d (Now at) = Does (codes "now") d × NumberAt (codes "at") d (unsigned at)
 SaysLine d Settle = Does (codes "settle") d
@@ -179,13 +165,3 @@ abbrev pub RefusesLinePart : LineWhy → Type 0 → LineError → Type 0
 RefusesLinePart why nothing NotJson = ⊥
 RefusesLinePart why nothing (BadLine w) = (w ≡ why) × nothing
 RefusesLinePart why nothing Memory = Unit {0}
-
--- ---- short lists, for the readers of their parts
-
--- a list of two values
-abbrev pub pair_data : Data → Data → Data
-pair_data a b = array (item a (item b no_items))
-
--- a list of three values
-abbrev pub triple_data : Data → Data → Data → Data
-triple_data a b c = array (item a (item b (item c no_items)))

@@ -1,14 +1,15 @@
 //! The changes of an update's line.
-ghost use Rattle.std.specs.Prelude.{◌≡◌, ℕ, List, IfOk, IfErr};
+ghost use Rattle.std.specs.Prelude.{◌≡◌, ℕ, List, codes, IfOk, IfErr};
 ghost use Rattle.serde_json.specs.Data.{string};
 ghost use Rattle.serde_json.specs.View.{view, items_view};
 ghost use Rattle.iris_base.specs.Forms.{IsTag};
 ghost use Rattle.iris_tree.specs.declared.change.Change.{Change};
-ghost use Rattle.iris_tree.specs.Changes.{change_data};
 ghost use Rattle.iris_json.specs.declared.line.LineWhy.{LineWhy};
-ghost use Rattle.iris_json.specs.Lines.{pair_data, triple_data, IsLineChange, AreLineChanges, RefusesLinePart};
+ghost use Rattle.iris_json.specs.Lines.{pair_data, triple_data, IsChange, AreLineChanges, RefusesLinePart};
 
+use crate::city::FormError;
 use crate::line::{LineError, LineWhy};
+use crate::plain::read_plain;
 use iris_tree::{Change, MAX_CHANGES, Sequence, Tag, Text};
 use serde_json::Value;
 use std::alloc::Global;
@@ -42,10 +43,10 @@ fn read_text(alloc: Global, value: &Value) -> Result<Text, LineError>
     Ok(Text::of(alloc, text)?)
 }
 
-// The change that these are: the word `attr`, a name, and the value that it gets.
+// The change of three parts: the word `attr`, a name, and the value that it gets.
 fn attr_of(alloc: Global, word: &Value, name: &Value, text: &Value) -> Result<Change, LineError>
-    ensures found { IfOk result (λ change. (triple_data (view word.now) (view name.now) (view text.now) ≡ change_data change) × IsLineChange change) }
-    ensures refused { IfErr result (RefusesLinePart LineWhy.Change ((change : Change) → triple_data (view word.now) (view name.now) (view text.now) ≡ change_data change → IsLineChange change → ⊥)) }
+    ensures found { IfOk result (IsChange (triple_data (view word.now) (view name.now) (view text.now))) }
+    ensures refused { IfErr result (RefusesLinePart LineWhy.Change ((change : Change) → IsChange (triple_data (view word.now) (view name.now) (view text.now)) change → ⊥)) }
 {
     if word.as_str() != Some("attr") {
         return Err(CHANGE);
@@ -55,28 +56,49 @@ fn attr_of(alloc: Global, word: &Value, name: &Value, text: &Value) -> Result<Ch
     Ok(Change::Attr { name, value })
 }
 
-// The change that these are: the word `drop` and a name.
-fn drop_of(word: &Value, name: &Value) -> Result<Change, LineError>
-    ensures found { IfOk result (λ change. (pair_data (view word.now) (view name.now) ≡ change_data change) × IsLineChange change) }
-    ensures refused { IfErr result (RefusesLinePart LineWhy.Change ((change : Change) → pair_data (view word.now) (view name.now) ≡ change_data change → IsLineChange change → ⊥)) }
+// The change that takes away the attribute of that name.
+fn drop_of(name: &Value) -> Result<Change, LineError>
+    ensures found { IfOk result (IsChange (pair_data (string (codes "drop")) (view name.now))) }
+    ensures refused { IfErr result (RefusesLinePart LineWhy.Change ((change : Change) → IsChange (pair_data (string (codes "drop")) (view name.now)) change → ⊥)) }
 {
-    if word.as_str() != Some("drop") {
-        return Err(CHANGE);
-    }
     let name = read_tag(name)?;
     Ok(Change::Drop { name })
 }
 
+// The change that puts that plain element.
+fn put_of(alloc: Global, plain: &Value) -> Result<Change, LineError>
+    ensures found { IfOk result (IsChange (pair_data (string (codes "put")) (view plain.now))) }
+    ensures refused { IfErr result (RefusesLinePart LineWhy.Change ((change : Change) → IsChange (pair_data (string (codes "put")) (view plain.now)) change → ⊥)) }
+{
+    match read_plain(alloc, plain) {
+        Ok(plain) => Ok(Change::Put { plain }),
+        Err(FormError::Shape) => Err(CHANGE),
+        Err(FormError::Memory) => Err(LineError::Memory),
+    }
+}
+
+// The change of two parts: the word `drop` and a name, or the word `put` and a plain element.
+fn drop_or_put(alloc: Global, word: &Value, other: &Value) -> Result<Change, LineError>
+    ensures found { IfOk result (IsChange (pair_data (view word.now) (view other.now))) }
+    ensures refused { IfErr result (RefusesLinePart LineWhy.Change ((change : Change) → IsChange (pair_data (view word.now) (view other.now)) change → ⊥)) }
+{
+    match word.as_str() {
+        Some("drop") => drop_of(other),
+        Some("put") => put_of(alloc, other),
+        _ => Err(CHANGE),
+    }
+}
+
 // The change that a value is.
 fn read_change(alloc: Global, value: &Value) -> Result<Change, LineError>
-    ensures found { IfOk result (λ change. (view value.now ≡ change_data change) × IsLineChange change) }
-    ensures refused { IfErr result (RefusesLinePart LineWhy.Change ((change : Change) → view value.now ≡ change_data change → IsLineChange change → ⊥)) }
+    ensures found { IfOk result (IsChange (view value.now)) }
+    ensures refused { IfErr result (RefusesLinePart LineWhy.Change ((change : Change) → IsChange (view value.now) change → ⊥)) }
 {
     let Some(parts) = value.as_array() else {
         return Err(CHANGE);
     };
     match parts.as_slice() {
-        [word, name] => drop_of(word, name),
+        [word, other] => drop_or_put(alloc, word, other),
         [word, name, text] => attr_of(alloc, word, name, text),
         _ => Err(CHANGE),
     }

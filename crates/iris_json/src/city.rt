@@ -17,8 +17,8 @@ use thiserror::Error;
 /// What is wrong with the form of a city line.
 #[derive(Clone, Copy, Debug, PartialEq, Eq)]
 pub enum CityWhy {
-    /// Its keys, types, kinds, agent, labels, names of attributes or places are not those of a city line,
-    /// or two siblings have one label.
+    /// Its keys, types, kinds, agent, labels, names of attributes, plain elements or places are not those
+    /// of a city line, or two siblings have one label.
     Shape,
 }
 
@@ -33,9 +33,11 @@ pub enum CityError {
     #[error("the line is no city line")]
     BadCity { why: CityWhy },
     /// A limit is passed: the line's, or of the nodes the first of `Nodes`, `Depth`, `Children`,
-    /// `Attributes` and `Local` that is. `count` is the greatest count found, or `u64::MAX` where it is
-    /// more: the bytes of the line, the nodes of the city, the labels of its longest name, the most
-    /// children or attributes of a node, the bytes of the longest canonical local information.
+    /// `Attributes`, `Plain`, `PlainDepth` and `Local` that is. `count` is the greatest count found, or
+    /// `u64::MAX` where it is more: the bytes of the line, the nodes of the city, the labels of its
+    /// longest name, the most children of a node, the most attributes of a node or a plain element, the
+    /// most plain elements of a node and the most levels of them, the bytes of the longest canonical
+    /// local information.
     #[error("the city is past a limit")]
     CityLimit { which: Which, count: u64 },
     /// There was no memory.

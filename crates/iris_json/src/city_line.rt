@@ -7,7 +7,7 @@ ghost use Rattle.iris_base.specs.declared.limits.TheConstants.{MAX_LABELS, MAX_N
 ghost use Rattle.iris_base.specs.Forms.{IsKind, IsAgentId};
 ghost use Rattle.iris_tree.specs.NodeCode.{size_of};
 ghost use Rattle.iris_tree.specs.Universe.{Node, label_of};
-ghost use Rattle.iris_json.specs.CityForm.{AreKinds, EachHoldsTexts, IsCityNode};
+ghost use Rattle.iris_json.specs.CityForm.{AreKinds, EachLocalForm, IsCityNode};
 ghost use Rattle.iris_json.specs.CityLine.{texts_data, KindsAt, AgentAt, TreeAt, PlaceAt, IsCity, ReadsCity, IsHeldBy, GivesCityPart, GivesCity, RefusesCity};
 ghost use Rattle.iris_json.specs.Extents.{GivesParts};
 
@@ -124,7 +124,7 @@ fn read_place(
 fn read_tree(alloc: Global, kinds: &[Kind], members: &Members) -> Result<Tree, FormError>
     requires kinds { 0 < length kinds.now }
     ensures found { IfOk result (λ tree. TreeAt kinds.now (object (members_view members.now.entries)) tree) }
-    ensures texts { IfOk result EachHoldsTexts }
+    ensures form { IfOk result EachLocalForm }
     ensures only { (tree : Node) → TreeAt kinds.now (object (members_view members.now.entries)) tree → GivesCityPart result tree }
 {
     let Some(value) = value_at(members, "tree") else {
@@ -146,7 +146,7 @@ struct Parts {
 // What is in an object.
 fn read_parts(alloc: Global, members: &Members) -> Result<Parts, FormError>
     ensures found { IfOk result (λ parts. IsCity (object (members_view members.now.entries)) parts.kinds parts.agent parts.tree) }
-    ensures texts { IfOk result (λ parts. EachHoldsTexts parts.tree) }
+    ensures form { IfOk result (λ parts. EachLocalForm parts.tree) }
     ensures top { IfOk result (λ parts. parts.top ≡ label_of parts.tree ∷ []) }
     ensures only { (kinds : List (List ℕ)) (agent : List ℕ) (tree : Node) → IsCity (object (members_view members.now.entries)) kinds agent tree → GivesParts result kinds agent tree }
 {
@@ -168,7 +168,7 @@ fn read_parts(alloc: Global, members: &Members) -> Result<Parts, FormError>
 // What is in a value.
 fn read_form(alloc: Global, value: &Value) -> Result<Parts, FormError>
     ensures found { IfOk result (λ parts. IsCity (view value.now) parts.kinds parts.agent parts.tree) }
-    ensures texts { IfOk result (λ parts. EachHoldsTexts parts.tree) }
+    ensures form { IfOk result (λ parts. EachLocalForm parts.tree) }
     ensures top { IfOk result (λ parts. parts.top ≡ label_of parts.tree ∷ []) }
     ensures only { (kinds : List (List ℕ)) (agent : List ℕ) (tree : Node) → IsCity (view value.now) kinds agent tree → GivesParts result kinds agent tree }
 {
@@ -203,9 +203,12 @@ fn city_of(alloc: Global, parts: Parts) -> Mem<City>
 
 /// Reads the city line, without its LF: 1 to `MAX_KINDS` different kinds; one agent; the one pair of the top
 /// node's name and that agent as places; the nodes, no two siblings with one label, no attribute named
-/// `id`. A line has at most `MAX_CITY_BYTES` bytes, a city `MAX_NODES` nodes and `MAX_LABELS` labels in
-/// a name, a node `MAX_CHILDREN` children, `MAX_ATTRIBUTES` attributes and `MAX_LOCAL_BYTES` bytes of
-/// canonical local information. The form of the whole line is looked at before the limits of its nodes.
+/// `id`, no plain element whose tag is a kind, and none with both kids and a text. A line has at most
+/// `MAX_CITY_BYTES` bytes, a city `MAX_NODES` nodes and `MAX_LABELS` labels in a name, a node
+/// `MAX_CHILDREN` children, `MAX_PLAIN` plain elements in `MAX_PLAIN_DEPTH` levels and `MAX_LOCAL_BYTES`
+/// bytes of canonical local information, a node and a plain element `MAX_ATTRIBUTES` attributes. The
+/// form of the whole line is looked at before the limits of its nodes. Plain elements stand in the
+/// city in the order of their texts, in whatever order the line has them.
 pub fn read_city(alloc: Global, bytes: &[u8]) -> Result<City, CityError>
     ensures found { IfOk result (λ city. (agent : List ℕ) × ReadsCity bytes.now city.kinds agent city.tree × IsHeldBy city agent) }
     ensures only { (kinds : List (List ℕ)) (agent : List ℕ) (tree : Node) → ReadsCity bytes.now kinds agent tree → GivesCity result kinds agent tree }

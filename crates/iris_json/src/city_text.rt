@@ -4,13 +4,12 @@ ghost use Rattle.serde_json.specs.Written.{compact_text};
 ghost use Rattle.iris_base.specs.declared.limits.TheConstants.{MAX_CITY_BYTES};
 ghost use Rattle.iris_tree.specs.LocalText.{value_tokens};
 ghost use Rattle.iris_tree.specs.Universe.{IsOrdered};
-ghost use Rattle.iris_json.specs.Render.{node_data};
 ghost use Rattle.iris_json.specs.CityLine.{texts_data, ReadsCity, IsHeldBy};
-ghost use Rattle.iris_json.specs.CityText.{without_plain, place_data, places_data, city_data};
+ghost use Rattle.iris_json.specs.CityText.{place_data, places_data, city_data};
 
 use crate::city::City;
-use crate::item::begin_node;
-use iris_tree::{AgentId, JsonText, Mem, Name, Short, Spelled, Tree, name_text};
+use crate::item::put_tree;
+use iris_tree::{AgentId, JsonText, Mem, Name, Short, Spelled, name_text};
 use std::alloc::Global;
 
 // Writes a list of short texts.
@@ -50,20 +49,6 @@ fn put_places(alloc: Global, places: &[(Name, AgentId)], out: &mut JsonText) -> 
     Ok(())
 }
 
-// Writes a node with all nodes below it: the keys `attrs`, `id`, `kind`, `nodes`.
-fn put_node(tree: &Tree, out: &mut JsonText) -> Mem<()>
-    ensures text { OnOk result (out.new ≡ out.old ++ value_tokens (without_plain (node_data tree.now))) }
-    ensures ordered { OnOk result (IsOrdered tree.now) }
-{
-    begin_node(tree, out)?;
-    for node in tree.children() {
-        put_node(node, out)?;
-    }
-    out.end_array()?;
-    out.end_object()?;
-    Ok(())
-}
-
 // Writes a city: the keys `agents`, `kinds`, `place`, `tree`.
 fn put_city(alloc: Global, city: &City, out: &mut JsonText) -> Mem<()>
     ensures text { OnOk result (out.new ≡ out.old ++ value_tokens (city_data city.now)) }
@@ -77,14 +62,14 @@ fn put_city(alloc: Global, city: &City, out: &mut JsonText) -> Mem<()>
     out.key("place")?;
     put_places(alloc, city.place.as_slice(), out)?;
     out.key("tree")?;
-    put_node(&city.tree, out)?;
+    put_tree(&city.tree, out)?;
     out.end_object()?;
     Ok(())
 }
 
 /// The city line of a city, without its LF: compact, the keys in the order of their bytes, the nodes
-/// in the order of their labels, each with its attributes also where there are none, and without the
-/// key `plain`. Where it is no longer than a city line may be, `read_city` gives the city back.
+/// in the order of their labels, each with its attributes and plain elements also where there are none.
+/// Where it is no longer than a city line may be, `read_city` gives the city back.
 pub fn write_city(alloc: Global, city: &City) -> Mem<Vec<u8>>
     ensures text { IfOk result (λ line. line.items ≡ compact_text (city_data city.now)) }
     ensures read_again { IfOk result (λ line. length line.items ≤ MAX_CITY_BYTES → (agent : List ℕ) × ReadsCity line.items city.now.kinds agent city.now.tree × IsHeldBy city.now agent) }

@@ -3,7 +3,10 @@ ghost use Rattle.std.specs.Prelude.{◌≡◌};
 ghost use Rattle.iris_json.specs.Extents.{extent_of, extent_with_child, passed_by_extent};
 
 use crate::out::Which;
-use iris_tree::{MAX_ATTRIBUTES, MAX_CHILDREN, MAX_LABELS, MAX_LOCAL_BYTES, MAX_NODES, Tree};
+use iris_tree::{
+    MAX_ATTRIBUTES, MAX_CHILDREN, MAX_LABELS, MAX_LOCAL_BYTES, MAX_NODES, MAX_PLAIN,
+    MAX_PLAIN_DEPTH, Tree,
+};
 
 /// How much of each a tree has, or `u64::MAX` where it is more.
 #[derive(Clone, Copy, Debug)]
@@ -14,8 +17,12 @@ pub struct Extent {
     pub labels: u64,
     /// The most children of a node.
     pub children: u64,
-    /// The most attributes of a node.
+    /// The most attributes of a node or of a plain element.
     pub attributes: u64,
+    /// The most plain elements of a node.
+    pub plain: u64,
+    /// The most levels of plain elements of a node.
+    pub plain_depth: u64,
     /// The bytes of the longest canonical local information of a node.
     pub local: u64,
 }
@@ -25,12 +32,15 @@ impl Extent {
     pub fn of(tree: &Tree) -> Extent
         ensures { result ≡ extent_of tree.now }
     {
+        let local = tree.local();
         let mut extent = Extent {
             nodes: 1,
             labels: 1,
             children: tree.children().len() as u64,
-            attributes: tree.local().attrs.len() as u64,
-            local: tree.local().text_len(),
+            attributes: (local.attrs.len() as u64).max(local.plain_attributes()),
+            plain: local.plain_count(),
+            plain_depth: local.plain_depth(),
+            local: local.text_len(),
         };
         for child in tree.children() {
             extent.add(Extent::of(child));
@@ -46,6 +56,8 @@ impl Extent {
         self.labels = self.labels.max(child.labels.saturating_add(1));
         self.children = self.children.max(child.children);
         self.attributes = self.attributes.max(child.attributes);
+        self.plain = self.plain.max(child.plain);
+        self.plain_depth = self.plain_depth.max(child.plain_depth);
         self.local = self.local.max(child.local);
     }
 
@@ -61,6 +73,10 @@ impl Extent {
             Some((Which::Children, self.children))
         } else if self.attributes > MAX_ATTRIBUTES {
             Some((Which::Attributes, self.attributes))
+        } else if self.plain > MAX_PLAIN {
+            Some((Which::Plain, self.plain))
+        } else if self.plain_depth > MAX_PLAIN_DEPTH {
+            Some((Which::PlainDepth, self.plain_depth))
         } else if self.local > MAX_LOCAL_BYTES {
             Some((Which::Local, self.local))
         } else {

@@ -2,6 +2,7 @@
 ghost use Rattle.std.specs.Prelude.{◌≡◌, ◌++◌, OnOk, IfOk};
 ghost use Rattle.serde_json.specs.Written.{compact_text};
 ghost use Rattle.iris_tree.specs.LocalText.{value_tokens};
+ghost use Rattle.iris_tree.specs.Universe.{IsOrdered};
 ghost use Rattle.iris_json.specs.Render.{node_data, node_front, element_data, item_data, items_data};
 
 use iris_tree::{Element, Item, JsonText, Mem, Tree, name_text};
@@ -26,7 +27,8 @@ pub fn begin_node(tree: &Tree, out: &mut JsonText) -> Mem<()>
 /// Writes a node with all below it: the keys `attrs`, `id`, `kind`, `nodes`, `plain`, the nodes in the
 /// order of their labels.
 pub fn put_tree(tree: &Tree, out: &mut JsonText) -> Mem<()>
-    ensures { OnOk result (out.new ≡ out.old ++ value_tokens (node_data tree.now)) }
+    ensures ordered { OnOk result (IsOrdered tree.now) }
+    ensures text { OnOk result (out.new ≡ out.old ++ value_tokens (node_data tree.now)) }
 {
     begin_node(tree, out)?;
     for node in tree.children() {

@@ -6,7 +6,8 @@ ghost use Rattle.std.specs.Str.{bytes_eq};
 ghost use Rattle.serde_json.specs.Data.{Data, array, item, no_items};
 ghost use Rattle.serde_json.specs.Find.{get_member, as_str, as_array};
 ghost use Rattle.serde_json.specs.View.{view, items_view, members_view};
-ghost use Rattle.iris_json.specs.Lines.{IsJson, all_among};
+ghost use Rattle.iris_json.specs.Objects.{all_among};
+ghost use Rattle.iris_json.specs.Lines.{IsJson};
 
 use serde_json::{Map, Value};
 use std::alloc::Global;

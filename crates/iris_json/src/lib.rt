@@ -12,9 +12,11 @@ mod laws;
 mod line;
 mod node;
 mod out;
+mod plain;
 mod row;
 #[cfg(test)]
 mod tests;
+mod word;
 
 pub use city::{City, CityError, CityWhy};
 pub use city_line::read_city;
@@ -23,4 +25,5 @@ pub use iris_tree::{Cite, Element, Item};
 pub use item::{write_items, write_tree};
 pub use laws::{text_is_one_city, text_is_one_line};
 pub use line::{Line, LineError, LineWhy, read_line};
-pub use out::{Out, Which, Why, write_out};
+pub use out::{Out, QueryFault, Which, Why, write_out};
+pub use word::Word;

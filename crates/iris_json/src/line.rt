@@ -4,7 +4,8 @@ ghost use Rattle.serde_json.specs.Data.{Num, Items, object, string};
 ghost use Rattle.serde_json.specs.Find.{get_member, as_number};
 ghost use Rattle.serde_json.specs.View.{number_view, items_view, members_view};
 ghost use Rattle.iris_json.specs.declared.line.LineWhy.{LineWhy};
-ghost use Rattle.iris_json.specs.Lines.{TextAt, has_only, IsUpdate, IsWhole, IsLine, ReadsLine, GivesLine, RefusesLinePart, RefusesValue, RefusesLine};
+ghost use Rattle.iris_json.specs.Objects.{TextAt, has_only};
+ghost use Rattle.iris_json.specs.Lines.{IsUpdate, IsWhole, IsLine, ReadsLine, GivesLine, RefusesLinePart, RefusesValue, RefusesLine};
 
 use crate::changes::read_changes;
 use crate::keys::{Members, ValueError, has_only, list_at, read_value, text_at, value_at};
@@ -26,7 +27,8 @@ pub enum Line {
         name: Name,
         /// The update's number, 1 to `MAX_NUMBER`.
         no: u64,
-        /// What is changed, 1 to `MAX_CHANGES` changes in their order. A name of an attribute may be `id`.
+        /// What is changed, 1 to `MAX_CHANGES` changes in their order. A name of an
+        /// attribute may be `id`. An element that is put is in canonical form.
         changes: Sequence<Change>,
     },
     /// A query is answered from the document as it is.
@@ -55,8 +57,9 @@ pub enum LineWhy {
     /// A number is not whole or out of its range.
     #[error("a number in the line is not whole or not in its range")]
     Number,
-    /// The list of changes has none or more than `MAX_CHANGES`, or an item of it is no change: another list than
-    /// `["attr",name,value]` or `["drop",name]`, or the name is not of the form of a tag.
+    /// The list of changes has none or more than `MAX_CHANGES`, or an item of it is no change: another
+    /// list than `["attr",name,value]`, `["drop",name]` or `["put",element]`, or a name or a tag is not of
+    /// the form of a tag, or a plain element of another form, or one with both kids and a text.
     #[error("the changes in the line are not well formed")]
     Change,
 }
@@ -289,7 +292,9 @@ fn line_of(alloc: Global, members: &Members) -> Result<Line, LineError>
 /// | `now` | `at`, 0 to `MAX_NUMBER` |
 /// | `settle` | |
 ///
-/// A change is `["attr",name,value]` or `["drop",name]`. `NotJson` comes where the bytes are no JSON
+/// A change is `["attr",name,value]`, `["drop",name]` or `["put",element]`, where the element is an
+/// object with the key `tag` and the optional keys `attrs`, `text` and `kids`, a list of such; the order
+/// of kids does not matter. `NotJson` comes where the bytes are no JSON
 /// text, and else `BadLine` with the first of the faults of `LineWhy` that the line has.
 pub fn read_line(alloc: Global, bytes: &[u8]) -> Result<Line, LineError>
     ensures found { IfOk result (λ line. ReadsLine bytes.now line) }

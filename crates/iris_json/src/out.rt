@@ -2,10 +2,11 @@
 ghost use Rattle.std.specs.Prelude.{◌≡◌, IfOk};
 ghost use Rattle.serde_json.specs.Written.{compact_text};
 ghost use Rattle.iris_json.specs.declared.out.Out.{Out};
-ghost use Rattle.iris_json.specs.Rows.{row_data};
-ghost use Rattle.iris_json.specs.Out.{why_word, which_word, post_row, refused_row, out_text};
+ghost use Rattle.iris_json.specs.Rows.{row_data, field_data};
+ghost use Rattle.iris_json.specs.Out.{why_word, which_word, post_row, told_row, refused_row, bad_query_row, answer_row, ended_row, limit_row, out_text};
 
 use crate::row::{Field, write_row};
+use crate::word::Word;
 use iris_tree::{AgentId, Cite, Item, Mem, Memory, Sequence};
 use std::alloc::Global;
 
@@ -60,8 +61,12 @@ pub enum Which {
     Depth,
     /// The children of a node, `MAX_CHILDREN`.
     Children,
-    /// The attributes of a node, `MAX_ATTRIBUTES`.
+    /// The attributes of a node or of a plain element, `MAX_ATTRIBUTES`.
     Attributes,
+    /// The plain elements of a node at any depth, `MAX_PLAIN`.
+    Plain,
+    /// The levels of plain elements of a node, `MAX_PLAIN_DEPTH`.
+    PlainDepth,
     /// The bytes of a node's canonical local information, `MAX_LOCAL_BYTES`.
     Local,
 }
@@ -79,9 +84,31 @@ impl Which {
             Which::Depth => "depth",
             Which::Children => "children",
             Which::Attributes => "attributes",
+            Which::Plain => "plain",
+            Which::PlainDepth => "plain-depth",
             Which::Local => "local",
         }
     }
+}
+
+/// Why a text is refused as a query.
+#[derive(Debug, Drop)]
+pub enum QueryFault {
+    /// The text is no expression of XPath 1.0: what stands at that byte, from 0, cannot stand there.
+    Syntax {
+        at: u64,
+    },
+    /// What stands at that byte, from 0, is outside the part of XPath 1.0 that is answered.
+    Outside {
+        at: u64,
+        /// What it is, as `axis`.
+        what: Word,
+    },
+    /// The query passes a limit.
+    TooLarge {
+        /// What there is too much of, as `steps`.
+        which: Word,
+    },
 }
 
 /// A line of a run, without its LF. Numbers of posts and requests count from 0.
@@ -139,6 +166,11 @@ pub enum Out {
         at: u64,
         request: u64,
     },
+    /// A query was refused.
+    BadQuery {
+        why: QueryFault,
+        request: u64,
+    },
     /// A settle made so many deliveries.
     Settled {
         settled: u64,
@@ -180,6 +212,33 @@ fn write_post<'a>(
     write_row(alloc, &row)
 }
 
+// The line of an answer.
+fn write_answer<'a>(
+    alloc: Global,
+    answer: &'a [Item],
+    cites: &'a [Cite],
+    newest: bool,
+    request: u64,
+) -> Mem<Vec<u8>>
+    ensures { IfOk result (λ text. text.items ≡ compact_text (row_data (answer_row answer.now cites.now newest request))) }
+{
+    let row = [
+        ("answer", Field::Items(answer)),
+        ("cites", Field::Cites(cites)),
+        ("newest", Field::Boolean(newest)),
+        ("request", Field::Number(request)),
+    ];
+    write_row(alloc, &row)
+}
+
+// The line that tells one thing of a request.
+fn write_told(alloc: Global, key: &str, told: &Field, request: u64) -> Mem<Vec<u8>>
+    ensures { IfOk result (λ text. text.items ≡ compact_text (row_data (told_row key.now (field_data told.now) request))) }
+{
+    let row = [(key, *told), ("request", Field::Number(request))];
+    write_row(alloc, &row)
+}
+
 // The line of a refused request, with the one number that tells more.
 fn write_refused(alloc: Global, key: &str, told: u64, refused: &str, request: u64) -> Mem<Vec<u8>>
     ensures { IfOk result (λ text. text.items ≡ compact_text (row_data (refused_row key.now told refused.now request))) }
@@ -188,6 +247,68 @@ fn write_refused(alloc: Global, key: &str, told: u64, refused: &str, request: u6
         (key, Field::Number(told)),
         ("refused", Field::Text(refused)),
         ("request", Field::Number(request)),
+    ];
+    write_row(alloc, &row)
+}
+
+// The line of a refused query.
+fn write_bad_query(alloc: Global, why: &QueryFault, request: u64) -> Mem<Vec<u8>>
+    ensures { IfOk result (λ text. text.items ≡ compact_text (row_data (bad_query_row why.now request))) }
+{
+    let refused = ("refused", Field::Text("bad query"));
+    let request = ("request", Field::Number(request));
+    match why {
+        QueryFault::Syntax { at } => write_row(
+            alloc,
+            &[
+                ("at", Field::Number(*at)),
+                refused,
+                request,
+                ("why", Field::Text("syntax")),
+            ],
+        ),
+        QueryFault::Outside { at, what } => write_row(
+            alloc,
+            &[
+                ("at", Field::Number(*at)),
+                refused,
+                request,
+                ("what", Field::Text(what.as_str())),
+                ("why", Field::Text("outside")),
+            ],
+        ),
+        QueryFault::TooLarge { which } => write_row(
+            alloc,
+            &[
+                refused,
+                request,
+                ("which", Field::Text(which.as_str())),
+                ("why", Field::Text("too large")),
+            ],
+        ),
+    }
+}
+
+// The last line where a line of the script is at fault.
+fn write_ended(alloc: Global, line: u64, why: Why) -> Mem<Vec<u8>>
+    ensures { IfOk result (λ text. text.items ≡ compact_text (row_data (ended_row line why))) }
+{
+    let row = [
+        ("ended", Field::Number(BAD_SCRIPT)),
+        ("line", Field::Number(line)),
+        ("why", Field::Text(why.word())),
+    ];
+    write_row(alloc, &row)
+}
+
+// The last line where a limit is passed.
+fn write_limit(alloc: Global, count: u64, which: Which) -> Mem<Vec<u8>>
+    ensures { IfOk result (λ text. text.items ≡ compact_text (row_data (limit_row count which))) }
+{
+    let row = [
+        ("count", Field::Number(count)),
+        ("ended", Field::Number(PAST_LIMIT)),
+        ("which", Field::Text(which.word())),
     ];
     write_row(alloc, &row)
 }
@@ -204,29 +325,19 @@ pub fn write_out(alloc: Global, out: &Out) -> Mem<Vec<u8>>
             cites,
             newest,
             request,
-        } => write_row(
+        } => write_answer(
             alloc,
-            &[
-                ("answer", Field::Items(answer.as_slice())),
-                ("cites", Field::Cites(cites.as_slice())),
-                ("newest", Field::Boolean(*newest)),
-                ("request", Field::Number(*request)),
-            ],
+            answer.as_slice(),
+            cites.as_slice(),
+            *newest,
+            *request,
         ),
-        Out::Audit { audit, request } => write_row(
-            alloc,
-            &[
-                ("audit", Field::Items(audit.as_slice())),
-                ("request", Field::Number(*request)),
-            ],
-        ),
-        Out::Accepted { accepted, request } => write_row(
-            alloc,
-            &[
-                ("accepted", Field::Number(*accepted)),
-                ("request", Field::Number(*request)),
-            ],
-        ),
+        Out::Audit { audit, request } => {
+            write_told(alloc, "audit", &Field::Items(audit.as_slice()), *request)
+        }
+        Out::Accepted { accepted, request } => {
+            write_told(alloc, "accepted", &Field::Number(*accepted), *request)
+        }
         Out::BackInTime { now } => write_row(
             alloc,
             &[
@@ -234,31 +345,14 @@ pub fn write_out(alloc: Global, out: &Out) -> Mem<Vec<u8>>
                 ("refused", Field::Text("back in time")),
             ],
         ),
-        Out::NoSuchNode { request } => write_row(
-            alloc,
-            &[
-                ("refused", Field::Text("no such node")),
-                ("request", Field::Number(*request)),
-            ],
-        ),
+        Out::NoSuchNode { request } => {
+            write_told(alloc, "refused", &Field::Text("no such node"), *request)
+        }
         Out::Old { last, request } => write_refused(alloc, "last", *last, "old", *request),
         Out::BadChange { at, request } => write_refused(alloc, "at", *at, "bad change", *request),
+        Out::BadQuery { why, request } => write_bad_query(alloc, why, *request),
         Out::Settled { settled } => write_row(alloc, &[("settled", Field::Number(*settled))]),
-        Out::Ended { line, why } => write_row(
-            alloc,
-            &[
-                ("ended", Field::Number(BAD_SCRIPT)),
-                ("line", Field::Number(*line)),
-                ("why", Field::Text(why.word())),
-            ],
-        ),
-        Out::Limit { count, which } => write_row(
-            alloc,
-            &[
-                ("count", Field::Number(*count)),
-                ("ended", Field::Number(PAST_LIMIT)),
-                ("which", Field::Text(which.word())),
-            ],
-        ),
+        Out::Ended { line, why } => write_ended(alloc, *line, *why),
+        Out::Limit { count, which } => write_limit(alloc, *count, *which),
     }
 }

@@ -10,20 +10,23 @@ use std::str;
 use std::test::Fail;
 
 const CITY: &str =
-    r#"{ "place":[["city-o","a"]],"kinds":["hood","city"],"agents":["a"],"tree":{"kind":"city","id":"o","attrs":{"plain":"\u00e4\u0001","b-2":""},"nodes":[{"kind":"hood","id":"2"},{"kind":"hood","id":"10"},{"kind":"city","id":"9"}]} }"#;
+    r#"{ "place":[["city-o","a"]],"kinds":["hood","city"],"agents":["a"],"tree":{"kind":"city","id":"o","attrs":{"plain":"\u00e4\u0001","b-2":""},"nodes":[{"kind":"hood","id":"10"},{"kind":"city","id":"9"}],"plain":[{"tag":"a","kids":[{"tag":"c"},{"tag":"b","attrs":{"z":"1"}}]},{"tag":"note","text":"x"}]} }"#;
+
+const TREE: &str =
+    r#"{"attrs":{"b-2":"","plain":"ä\u0001"},"id":"o","kind":"city","nodes":[{"attrs":{},"id":"9","kind":"city","nodes":[],"plain":[]},{"attrs":{},"id":"10","kind":"hood","nodes":[],"plain":[]}],"plain":[{"attrs":{},"kids":[],"tag":"note","text":"x"},{"attrs":{},"kids":[{"attrs":{"z":"1"},"kids":[],"tag":"b","text":""},{"attrs":{},"kids":[],"tag":"c","text":""}],"tag":"a","text":""}]}"#;
 
 #[test]
 fn a_city(rt: HostRuntime) -> Result<(), Fail> {
     let alloc = rt.alloc();
     let city = read_city(alloc, CITY.as_bytes())?;
+    let expected = format!(in alloc;
+        "{{\"agents\":[\"a\"],\"kinds\":[\"hood\",\"city\"],\"place\":[[\"city-o\",\"a\"]],\"tree\":{TREE}}}"
+    )?;
     assert_eq!(rt;
         str::from_utf8(&write_city(alloc, &city)?)?,
-        r#"{"agents":["a"],"kinds":["hood","city"],"place":[["city-o","a"]],"tree":{"attrs":{"b-2":"","plain":"ä\u0001"},"id":"o","kind":"city","nodes":[{"attrs":{},"id":"9","kind":"city","nodes":[]},{"attrs":{},"id":"10","kind":"hood","nodes":[]},{"attrs":{},"id":"2","kind":"hood","nodes":[]}]}}"#
+        expected.as_str()
     );
-    assert_eq!(rt;
-        str::from_utf8(&write_tree(alloc, &city.tree)?)?,
-        r#"{"attrs":{"b-2":"","plain":"ä\u0001"},"id":"o","kind":"city","nodes":[{"attrs":{},"id":"9","kind":"city","nodes":[],"plain":[]},{"attrs":{},"id":"10","kind":"hood","nodes":[],"plain":[]},{"attrs":{},"id":"2","kind":"hood","nodes":[],"plain":[]}],"plain":[]}"#
-    );
+    assert_eq!(rt; str::from_utf8(&write_tree(alloc, &city.tree)?)?, TREE);
     Ok(())
 }
 
@@ -44,7 +47,7 @@ fn a_line(rt: HostRuntime) -> Result<(), Fail> {
                 assert_eq!(rt; name.as_str(), "free");
                 assert_eq!(rt; value.as_str(), "\"x");
             }
-            Change::Drop { .. } => assert!(rt; false),
+            Change::Drop { .. } | Change::Put { .. } => assert!(rt; false),
         }
     }
     Ok(())

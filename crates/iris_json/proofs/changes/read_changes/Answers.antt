@@ -15,12 +15,12 @@ returns-then-is_empty-clause-refused c = (
 )
 
 pub loop-item-init : goal.loop-item-init
-loop-item-init c = so_start _ _ c.in_ok-changes.ensures.items
+loop-item-init c = so_start c.args.items.now _ c.in_ok-changes.ensures.items
 
 pub returns-in_err-read_change-clause-refused : goal.returns-in_err-read_change-clause-refused
 returns-in_err-read_change-clause-refused c =
     let p = err_from_is_err_and c.from_residual-in_err-read_change.result c.from_residual-in_err-read_change.ensures.1 in
-    rw (p.1, p.2) (refused_too _ _ _ _ (λ none changes are. (let here = are_each _ changes _ c.item-item.result c.loop-item-test.true c.item-item.is are in none here.0 here.1 here.2)) c.in_err-read_change.ensures.refused)
+    rw (p.1, p.2) (refused_too _ _ _ _ (λ none changes are. (let here = are_each _ changes _ c.item-item.result c.loop-item-test.true c.item-item.is are in none here.0 here.1)) c.in_err-read_change.ensures.refused)
 
 pub loop-item-preserved : goal.loop-item-preserved
 loop-item-preserved c = so_step _ _ _ c.loop-item.invariant c.item-item.result c.loop-item-test.true c.item-item.is _ c.in_ok-read_change.ensures.found _ c.in_ok-push.ensures.items

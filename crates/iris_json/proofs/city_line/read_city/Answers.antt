@@ -11,4 +11,4 @@ returns-in_err-parts-clause-refused c =
     rw (p.1, p.2) (form_refused c.args.bytes.now _ _ c.if-bytes-gt-MAX_CITY_BYTES.false c.in_ok-value.ensures.found c.in_err-parts.ensures.only)
 
 pub city_of-requires-clause-nodes : goal.city_of-requires-clause-nodes
-city_of-requires-clause-nodes c = tree_fits _ _ _ _ c.in_ok-parts.ensures.found c.in_ok-parts.ensures.texts (sym (c.passed.ensures ∙ ap passed_by_extent c.of.ensures) ∙ c.in_default.is)
+city_of-requires-clause-nodes c = tree_fits _ _ _ _ c.in_ok-parts.ensures.found c.in_ok-parts.ensures.form (sym (c.passed.ensures ∙ ap passed_by_extent c.of.ensures) ∙ c.in_default.is)

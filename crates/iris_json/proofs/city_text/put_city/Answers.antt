@@ -5,7 +5,7 @@ use Rattle.iris_json.proofs.city_text.put_city.Goals as goal
 pub returns-clause-text : goal.returns-clause-text
 returns-clause-text c = rw (
   c.in_ok-end_object.ensures,
-  c.in_ok-put_node.ensures.text,
+  c.in_ok-put_tree.ensures.text,
   c.in_ok-key-4.ensures,
   c.in_ok-put_places.ensures,
   c.as_slice-3.ensures,

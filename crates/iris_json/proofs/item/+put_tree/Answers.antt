@@ -22,8 +22,8 @@ loop-element-preserved t c =
     let more = tokens_more plain_data _ c.loop-element.element-index c.element-item.result c.loop-element-test.true c.element-item.is in
     rw (wrote, c.loop-element.invariant, more) (simp append_assoc)
 
-pub returns : goal.returns
-returns t c =
+pub returns-clause-text : goal.returns-clause-text
+returns-clause-text t c =
     let nodes : take c.loop-node.node-index c.children-node-items.result.now ≡ children_of c.args.tree.now = take_all _ _ c.loop-node-test.false ∙ c.children-node-items.ensures.value in
     let plain : take c.loop-element.element-index c.as_slice-element-items.result.now ≡ (local_of c.args.tree.now).plain =
     take_all _ _ c.loop-element-test.false ∙ c.as_slice-element-items.ensures ∙ ap (λ (l : Local). l.plain) c.local.ensures in

@@ -7,17 +7,17 @@ use Rattle.std.proofs.lemmas.List.{map-append}
 use Rattle.std.proofs.lemmas.Result.{err_from_is_err_and}
 use Rattle.serde_json.specs.View.{members_view}
 use Rattle.serde_json.proofs.Views.{Entry}
-use Rattle.iris_json.specs.CityForm.{IsAttrName}
+use Rattle.iris_base.specs.Forms.{IsTag}
 use Rattle.iris_tree.specs.LocalText.{attrs_members}
 use Rattle.iris_json.proofs.AttrReading.{same_error, attr_step, turn, attrs_same, attr_here, names_rise, names_of, texts_of}
-use Rattle.iris_json.proofs.node.read_members.Goals as goal
+use Rattle.iris_json.proofs.plain.read_members.Goals as goal
 
 pub returns-in_err-tag-clause-only : goal.returns-in_err-tag-clause-only
 returns-in_err-tag-clause-only c pairs is are =
     let whole = turn c.args.members.now.entries c.loop-name.yielded _ _ _ _ _ c.into_iter-name-iterator.ensures.into_iter_gives.0 c.loop-name.yielded_by c.in-Some.is c.next.ensures.steps in
     let here = attr_here (map deref_pair c.loop-name.yielded) (deref_pair (c.in-Some.name, c.in-Some.value)) c.next.new.self pairs (ap members_view (sym whole) ∙ is) are in
     let p = err_from_is_err_and c.from_residual.result c.from_residual.ensures.1 in
-    rw (p.1, p.2) (same_error _ _ pairs (c.in_err-tag.ensures.only here.0 (subst IsAttrName (sym c.as_str.ensures.value) here.1) here.2))
+    rw (p.1, p.2) (same_error _ _ pairs (c.in_err-tag.ensures.only here.0 (subst IsTag (sym c.as_str.ensures.value) here.1) here.2))
 
 pub loop-name-preserved : goal.loop-name-preserved
 loop-name-preserved c =
