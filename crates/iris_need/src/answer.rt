@@ -2,7 +2,7 @@
 ghost use Rattle.std.specs.Prelude.{◌≡◌, ◌+◌, ◌∷◌, ◌++◌, [], true, IfOk, OnOk};
 ghost use Rattle.iris_tree.specs.Universe.{Node, label_of, local_of, children_of, labels_of};
 ghost use Rattle.iris_xpath.specs.Meaning.{selected};
-ghost use Rattle.iris_xpath.specs.ThinQuery.{thin_of};
+ghost use Rattle.iris_xpath.specs.ThinQuery.{is_thin, thin_of};
 ghost use Rattle.iris_xpath.specs.ThinQuery as thin;
 ghost use Rattle.iris_tree.specs.Items.{items_at};
 ghost use Rattle.iris_need.specs.Documents.{IsDocument};
@@ -181,6 +181,7 @@ impl<'a> Walk<'a> {
 /// The items that a query selects, in document order: in every document that agrees with the view, since
 /// nothing is missing from the document on. `top` is the label of its top node.
 pub fn answer_of(alloc: Global, query: &Query, top: &Label, view: &View) -> Mem<Vec<Item>>
+    requires thin { is_thin query.now ≡ true }
     requires whole { missing_of query.now (from_document top.now) view.now ≡ [] }
     ensures determined { IfOk result (λ items. (document : Node) → IsDocument document → label_of document ≡ top.now → Agrees document view.now → items.items ≡ items_at document (selected document query.now)) }
 {

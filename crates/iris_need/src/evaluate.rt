@@ -1,7 +1,7 @@
 //! What an evaluation from a start lacks, and what it rests on.
 ghost use Rattle.std.specs.Prelude.{◌≡◌, [], true, drop, IfOk, OnOk};
 ghost use Rattle.iris_fragment.specs.declared.piece.Level.{Level};
-ghost use Rattle.iris_xpath.specs.ThinQuery.{thin_of};
+ghost use Rattle.iris_xpath.specs.ThinQuery.{is_thin, thin_of};
 ghost use Rattle.iris_need.specs.Needs.{is_under, missing_of, support_of};
 ghost use Rattle.iris_need.specs.Program.{gather, own_look, program};
 ghost use Rattle.iris_need.specs.ThinProgram.{thin_enter, thin_from};
@@ -175,6 +175,7 @@ impl<'a> Walk<'a> {
 /// What an evaluation from a start lacks: of each look that the view doesn't meet the name, the level and
 /// the states, merged by name.
 pub fn missing(alloc: Global, query: &Query, start: &Start, view: &View) -> Mem<Vec<Need>>
+    requires thin { is_thin query.now ≡ true }
     ensures { IfOk result (λ needs. needs.items ≡ missing_of query.now start.now view.now) }
 {
     let mut needs = Needs::new(alloc);
@@ -191,6 +192,7 @@ pub fn missing(alloc: Global, query: &Query, start: &Start, view: &View) -> Mem<
 /// What an evaluation from a start rests on: of each look that the view meets the name and the level,
 /// merged by name.
 pub fn support(alloc: Global, query: &Query, start: &Start, view: &View) -> Mem<Vec<Need>>
+    requires thin { is_thin query.now ≡ true }
     ensures { IfOk result (λ needs. needs.items ≡ support_of query.now start.now view.now) }
 {
     let mut needs = Needs::new(alloc);

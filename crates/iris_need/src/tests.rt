@@ -1,5 +1,8 @@
 //! Each call once: a city with a hood of two blocks, of which the view lacks the second.
 
+ghost use Rattle.std.specs.Prelude.{◌≡◌, true, IfOk};
+ghost use Rattle.iris_xpath.specs.ThinQuery.{is_thin};
+
 use crate::answer::answer_of;
 use crate::evaluate::{missing, support};
 use crate::need::{Need, Start, State};
@@ -47,10 +50,17 @@ fn held(alloc: Global) -> Result<View, Fail> {
     Ok(view)
 }
 
-fn free_blocks(alloc: Global) -> Result<Query, Fail> {
+fn free_blocks(alloc: Global) -> Result<Query, Fail>
+    ensures { IfOk result (λ query. is_thin query ≡ true) }
+{
     let kinds = [Kind::new("city")?, Kind::new("hood")?, Kind::new("block")?];
     let text = "/city[@id='o']/hood/block[@free='yes']";
-    Ok(parse(alloc, text, &kinds)?)
+    let query = parse(alloc, text, &kinds)?;
+    if query.is_thin() {
+        Ok(query)
+    } else {
+        Err(Fail::new("the query is not thin"))
+    }
 }
 
 // Whether the needs have these names, levels and first states.

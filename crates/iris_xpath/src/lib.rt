@@ -19,6 +19,7 @@ mod steps;
 mod tally;
 #[cfg(test)]
 mod tests;
+mod thin;
 mod turn;
 mod units;
 mod word;
