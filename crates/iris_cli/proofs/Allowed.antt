@@ -11,11 +11,10 @@ use Rattle.iris_base.specs.declared.cite.Cite.{Cite}
 use Rattle.iris_base.specs.NameOrder.{label_eq}
 use Rattle.iris_tree.specs.declared.local.Local.{Local}
 use Rattle.iris_tree.specs.Universe.{Node, node_at, local_of, IsOrdered}
-use Rattle.iris_tree.specs.Document.{local_at, names_of, place_of}
+use Rattle.iris_tree.specs.Document.{local_at, names_of}
 use Rattle.iris_json.specs.declared.out.Out.{Out}
 use Rattle.iris_xpath.specs.Syntax.{Syntax}
-use Rattle.iris_xpath.specs.ThinMeaning.{is_looked_into, full_names}
-use Rattle.iris_xpath.specs.ThinQuery.{thin_of}
+use Rattle.iris_xpath.specs.Looks.{is_full_at, query_looks, full_names}
 use Rattle.iris_book.specs.declared.entry.Entry.{Entry}
 use Rattle.iris_book.specs.declared.entry.Entry.TheVariants.{Updated}
 use Rattle.iris_book.specs.declared.update.NodeUpdate as accepted
@@ -133,7 +132,7 @@ newest_allowed h query good = record {
 
     all_there : All (λ name. IsThere h.history.start name) names
     all_there =
-        All-filter (λ name. is_looked_into (today h.history) ([] ∷ []) (thin_of query) (place_of name)) (λ name. IsThere h.history.start name) (names_of (today h.history))
+        All-filter (λ name. query_looks (today h.history) (is_full_at name) query) (λ name. IsThere h.history.start name) (names_of (today h.history))
         (subst (λ (ns : List (List Label)). All (λ name. IsThere h.history.start name) ns) (sym (names_kept h.history.start _)) (names_there h.history.start good.ordered))
 
     of_cites : (P : Cite → Type 0) → ((name : List Label) → IsThere h.history.start name → P (newest_cite h name)) → All P (map (newest_cite h) names)
@@ -166,10 +165,10 @@ good_all h [] good = good
 good_all h (p ∷ ps) good = good_all (after_delivery h p.request p.sent) ps (good_delivery h p.request p.sent good)
 
 -- a later moment
-good_later : (h : SiteState) (at : ℕ) → h.now ≤ at → IsGood h → IsGood (record { history = h.history; now = at })
+good_later : (h : SiteState) (at : ℕ) → h.now ≤ at → IsGood h → IsGood (record { kinds = h.kinds; history = h.history; now = at })
 good_later h at later good = record { ordered = good.ordered; sound = good.sound; past = λ k d within. omega (arith, good.past k d within) }
 
-good_now : (w : World) (at : ℕ) (b : Bool) → nat_lt at w.site.now ≡ b → IsGood w.site → IsGood (if b then w else record w { site = record { history = w.site.history; now = at } }).site
+good_now : (w : World) (at : ℕ) (b : Bool) → nat_lt at w.site.now ≡ b → IsGood w.site → IsGood (if b then w else record w { site = record { kinds = w.site.kinds; history = w.site.history; now = at } }).site
 good_now w at true back good = good
 good_now w at false on good = good_later w.site at (ltb-false at w.site.now on) good
 
@@ -181,6 +180,7 @@ good_post w s false good = good
 good_after : (w : World) (event : Event) → IsGood w.site → IsGood (after w event).site
 good_after w (events.Post s) good = good_post w s (is_posted w s) good
 good_after w (events.Audit query) good = good
+good_after w (events.BadQuery why) good = good
 good_after w (events.Now at) good = good_now w at (nat_lt at w.site.now) refl good
 good_after w events.Settle good = good_all w.site w.posted good
 
@@ -203,6 +203,7 @@ all_deliver_allowed h (p ∷ ps) good = (delivers_allowed h p.request p.sent goo
 pub brings_allowed : (w : World) (event : Event) → IsGood w.site → BringsAllowed w event
 brings_allowed w (events.Post s) good = tt
 brings_allowed w (events.Audit query) good = tt
+brings_allowed w (events.BadQuery why) good = tt
 brings_allowed w (events.Now at) good = tt
 brings_allowed w events.Settle good = all_deliver_allowed w.site w.posted good
 
@@ -219,7 +220,7 @@ sound_start start = record {
 
 good_start : (city : List ℕ) (w : World) → Starts city w → IsGood w.site
 good_start city w starts = record {
-  ordered = city_ordered city w.kinds w.agent w.site.history.start starts.is_city;
+  ordered = city_ordered city w.site.kinds w.agent w.site.history.start starts.is_city;
   sound = subst (λ (es : List Entry). AreSound w.site.history.start (updates_in es)) (sym starts.nothing_accepted) (sound_start w.site.history.start);
   past = no_past w.site.history w.site.now starts.nothing_accepted;
 }

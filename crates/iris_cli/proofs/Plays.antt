@@ -18,7 +18,7 @@ use Rattle.iris_cli.specs.declared.event.Event.{Event}
 use Rattle.iris_cli.specs.declared.event.Event.TheVariants as events
 use Rattle.iris_cli.specs.Halt.{of_city, of_line}
 use Rattle.iris_cli.specs.Lines.{IsLine, ended}
-use Rattle.iris_cli.specs.LineSays.{LineSays, IsToldOf}
+use Rattle.iris_cli.specs.LineSays.{LineSays}
 use Rattle.iris_cli.specs.Run.{World, out_lines, brings, is_posted, after, Runs, Starts}
 use Rattle.iris_cli.specs.Taken.{ScriptState, max_line_bytes, LineFollows, IsWithinLimits, PassesLimit, TakesNext}
 use Rattle.iris_cli.specs.Played.{room_after, AreShort, AreLines, DoneSo, BeginsRefused, WritesFront, IsFault}
@@ -35,7 +35,7 @@ all_more : (P : List ℕ → Type 0) (xs : List (List ℕ)) (x : List ℕ) → A
 all_more P [] x h k = (k, tt)
 all_more P (y ∷ xs) x h k = (h.0, all_more P xs x h.1 k)
 
-runs_more : (w : World) (lines : List (List ℕ)) (written : List ℕ) (now : World) (line : List ℕ) (event : Event) → Runs w lines written now → LineSays now.kinds line event
+runs_more : (w : World) (lines : List (List ℕ)) (written : List ℕ) (now : World) (line : List ℕ) (event : Event) → Runs w lines written now → LineSays now.site.kinds line event
     → Runs w (lines ++ line ∷ []) (written ++ out_lines (brings now event)) (after now event)
 runs_more w [] written now line event h says =
     let bytes = out_lines (brings now event) in
@@ -49,7 +49,7 @@ runs_more w (first ∷ lines) written now line event h says =
       ap (λ v. v ++ bytes) h.4 ∙ append_assoc (out_lines (brings w h.0)) h.1 bytes,
     )
 
-done_more : (lines : List (List ℕ)) (done : List ℕ) (w : World) (line : List ℕ) (event : Event) → DoneSo lines done (Some w) → LineSays w.kinds line event
+done_more : (lines : List (List ℕ)) (done : List ℕ) (w : World) (line : List ℕ) (event : Event) → DoneSo lines done (Some w) → LineSays w.site.kinds line event
     → DoneSo (lines ++ line ∷ []) (done ++ out_lines (brings w event)) (Some (after w event))
 done_more [] done w line event h says = absurd h
 done_more (city ∷ lines) done w line event h says = (h.0, h.1, runs_more h.0 lines done w line event h.2 says)
@@ -114,7 +114,7 @@ so_city (Some text) (Some rest) (Some more) old new number room less w line h c 
 
 -- a line after it was taken and done
 pub so_line : (first now next old mid new : Option (List ℕ)) (number room less : ℕ) (w : World) (line : List ℕ) (event : Event) → IsSoFar first now old mid number room (Some w) → Consumes now next (ended line) → LineFollows number room line
-    → less + length (ended line) ≡ room → LineSays w.kinds line event → Appends mid new (out_lines (brings w event)) → IsSoFar first next old new (number + 1) less (Some (after w event))
+    → less + length (ended line) ≡ room → LineSays w.site.kinds line event → Appends mid new (out_lines (brings w event)) → IsSoFar first next old new (number + 1) less (Some (after w event))
 so_line None now next old mid new number room less w line event h c n k says a = tt
 so_line (Some text) None next old mid new number room less w line event h c n k says a = absurd h
 so_line (Some text) (Some rest) None old mid new number room less w line event h c n k says a = absurd c
@@ -223,10 +223,6 @@ told_line (line_errors.BadLine line_whys.Number) why e = ((λ f. cc), (λ f. cc)
 told_line (line_errors.BadLine line_whys.Change) why e = ((λ f. cc), (λ f. cc))
 told_line line_errors.Memory why e = ((λ f. cc), (λ f. cc))
 
-told_event : (kinds : List (List ℕ)) (line : List ℕ) (why : Why) → IsToldOf kinds line (BadLine why) → (why ≢ whys.Empty) × (why ≢ whys.Truncated)
-told_event kinds line why (inl t) = told_line t.0 why t.2
-told_event kinds line why (inr t) = let e = t.1 in ((λ f. cc), (λ f. cc))
-
 is_fault : (lines : List (List ℕ)) (w : Option World) (rest left : List ℕ) (at : ℕ) (why : Why) → (why ≢ whys.Empty) × (why ≢ whys.Truncated) → BeginsRefused lines w rest left (BadLine why) → at ≡ length lines + 1 → IsFault lines w rest left at why
 is_fault lines w rest left at whys.Empty t b e = absurd (t.0 refl)
 is_fault lines w rest left at whys.Truncated t b e = absurd (t.1 refl)
@@ -270,7 +266,7 @@ run_halts (Some text) (Some rest) (Some left) old mid new number room at w v lin
 run_halts (Some text) (Some rest) (Some left) old mid new number room at w v line WriteFault h c n l f = adds_front text rest left old mid new number room at w line WriteFault h c n f (λ lines part x. x)
 run_halts (Some text) (Some rest) (Some left) old mid new number room at w v line (BadLine why) h c n l f =
     ends text rest left old mid new number room (Some w) [] at (Err (BadLine why)) h f.2
-    (λ lines k r. (is_fault lines (Some w) rest left at why (told_event w.kinds line why f.1) (line, c, follows lines line number room k r n, (f.0, f.1)) (l ∙ ap (λ m. m + 1) k), refl))
+    (λ lines k r. (is_fault lines (Some w) rest left at why (told_line f.1.0 why f.1.2) (line, c, follows lines line number room k r n, (f.0, f.1)) (l ∙ ap (λ m. m + 1) k), refl))
 run_halts (Some text) (Some rest) (Some left) old mid new number room at w v line (Limit which count) h c n l f = absurd f
 run_halts (Some text) (Some rest) (Some left) old mid new number room at w v line Memory h c n l f = adds_front text rest left old mid new number room at w line Memory h c n f (λ lines part x. x)
 
@@ -287,5 +283,6 @@ by_choice false w v u h k = k
 pub one_request : (w : World) (event : Event) → w.posts ≤ w.requests → Counts w (after w event)
 one_request w (events.Post s) h = by_choice (is_posted w s) w _ _ (omega arith, omega (arith, h)) (omega arith, omega (arith, h))
 one_request w (events.Audit query) h = (omega arith, omega (arith, h))
+one_request w (events.BadQuery why) h = (omega arith, omega (arith, h))
 one_request w (events.Now at) h = by_choice (nat_lt at w.site.now) w _ _ (omega arith, h) (omega arith, h)
 one_request w events.Settle h = (omega arith, h)

@@ -18,6 +18,8 @@ use Rattle.iris_tree.specs.Document.{with_local}
 use Rattle.iris_tree.proofs.WithLocals.{locals_kept}
 use Rattle.iris_book.proofs.Values.{value_nowhere}
 use Rattle.iris_cli.specs.declared.event.SentUpdate.{SentUpdate}
+use Rattle.iris_cli.specs.CityChanges.{changes_in_city}
+use Rattle.iris_cli.proofs.CityChanges.{made_in_city}
 use Rattle.iris_cli.specs.Run.{SiteState, version_of, last_number, or_bad_change, made_of, made_by}
 
 was_changed : (request : ℕ) (changed : Result Local ℕ) (local : Local) → or_bad_change request changed ≡ Ok local → changed ≡ Ok local
@@ -28,9 +30,10 @@ was_new : (old : Bool) (out : Out) (request : ℕ) (changed : Result Local ℕ) 
 was_new true out request changed local e = absurd (cc)
 was_new false out request changed local e = was_changed request changed local e
 
-was_made : (value : Option Local) (last request : ℕ) (u : SentUpdate) (local : Local) → made_of request value last u ≡ Ok local → (before : Local) × (value ≡ Some before) × (apply_changes before u.changes ≡ Ok local)
-was_made None last request u local e = absurd (cc)
-was_made (Some before) last request u local e = (before, refl, was_new (nat_le u.no last) _ request (apply_changes before u.changes) local e)
+was_made : (kinds : List (List ℕ)) (value : Option Local) (last request : ℕ) (u : SentUpdate) (local : Local) → made_of kinds request value last u ≡ Ok local → (before : Local) × (value ≡ Some before) × (apply_changes before u.changes ≡ Ok local)
+was_made kinds None last request u local e = absurd (cc)
+was_made kinds (Some before) last request u local e =
+    (before, refl, made_in_city kinds before u.changes local (was_new (nat_le u.no last) _ request (changes_in_city kinds before u.changes) local e))
 
 -- the version of a node that is there is its newest
 at_node : (here : Option Node) (n : ℕ) (value : ℕ → Option Local) (before : Local) → (here ≡ None → value 0 ≡ None) → value (option_map_or (λ version. version) (option_map (λ _. n) here) 0) ≡ Some before → value n ≡ Some before
@@ -43,11 +46,11 @@ version_told None version e = absurd (cc)
 version_told (Some v) version e = cc
 
 pub made_there : (s : SiteState) (request : ℕ) (u : SentUpdate) (local : Local) (version number : ℕ) → Some version ≡ latest s.history u.name → value_at s.history u.name version ≡ Some local
-    → number ≡ last_number_at s.history u.name → made_by s request u ≡ made_of request (Some local) number u
+    → number ≡ last_number_at s.history u.name → made_by s request u ≡ made_of s.kinds request (Some local) number u
 made_there s request u local version number told value last =
     let at : version_of s u.name ≡ version = version_told (latest s.history u.name) version told in
-    ap (λ v. made_of request (value_at s.history u.name v) (last_number s u.name) u) at
-    ∙ ap (λ (o : Option Local). made_of request o (last_number s u.name) u) value ∙ ap (λ n. made_of request (Some local) n u) (sym last)
+    ap (λ v. made_of s.kinds request (value_at s.history u.name v) (last_number s u.name) u) at
+    ∙ ap (λ (o : Option Local). made_of s.kinds request o (last_number s u.name) u) value ∙ ap (λ n. made_of s.kinds request (Some local) n u) (sym last)
 
 -- of a node that is not there, it is told so
 no_value : (here : Option Node) (n : ℕ) → None ≡ option_map (λ _. n) here → option_map local_of here ≡ None
@@ -57,13 +60,13 @@ no_value (Some there) n e = absurd (cc)
 pub made_nowhere : (s : SiteState) (request : ℕ) (u : SentUpdate) → None ≡ latest s.history u.name → made_by s request u ≡ Err (outs.NoSuchNode request)
 made_nowhere s request u none =
     let gone = no_value (node_at s.history.start u.name) (update_count s.history u.name) none in
-    ap (λ (o : Option Local). made_of request o (last_number s u.name) u) (value_nowhere s.history.start (updates_in s.history.entries) u.name (version_of s u.name) gone)
+    ap (λ (o : Option Local). made_of s.kinds request o (last_number s u.name) u) (value_nowhere s.history.start (updates_in s.history.entries) u.name (version_of s u.name) gone)
 
 -- an update that makes this local information may come next
 pub made_next : (h : SiteState) (request : ℕ) (u : SentUpdate) (local : Local) → made_by h request u ≡ Ok local → All (λ v. v.1.at ≤ h.now) (updates_in h.history.entries)
     → IsNext h.history.start (updates_in h.history.entries) u.name (record { no = u.no; changes = u.changes; local = local; at = h.now })
 made_next h request u local e past =
-    let made = was_made (value_at h.history u.name (version_of h u.name)) (last_number h u.name) request u local e in
+    let made = was_made h.kinds (value_at h.history u.name (version_of h u.name)) (last_number h u.name) request u local e in
     let value = λ (version : ℕ). value_at h.history u.name version in
     record {
       value = (made.0, at_node (node_at h.history.start u.name) (update_count h.history u.name) value made.0 (λ z. value_nowhere h.history.start (updates_in h.history.entries) u.name 0 (ap (option_map local_of) z)) made.1, made.2);

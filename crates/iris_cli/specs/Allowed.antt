@@ -11,7 +11,7 @@ use Rattle.iris_tree.specs.declared.item.Item.{Item}
 use Rattle.iris_json.specs.declared.out.Out.{Out}
 use Rattle.iris_json.specs.declared.out.Out.TheVariants as outs
 use Rattle.iris_xpath.specs.Syntax.{Syntax}
-use Rattle.iris_xpath.specs.ThinMeaning.{full_names}
+use Rattle.iris_xpath.specs.Looks.{full_names}
 use Rattle.iris_book.specs.Book as book
 use Rattle.iris_book.specs.Book.{History, update_count, value_at, today}
 use Rattle.iris_cli.specs.declared.event.Event.{Event}
@@ -74,13 +74,14 @@ AllDeliverAllowed s (p ∷ ps) = DeliversAllowed s p.request p.sent × AllDelive
 abbrev pub BringsAllowed : World → Event → Type 0
 BringsAllowed w (events.Post p) = Unit {0}
 BringsAllowed w (events.Audit query) = Unit {0}
+BringsAllowed w (events.BadQuery why) = Unit {0}
 BringsAllowed w (events.Now at) = Unit {0}
 BringsAllowed w events.Settle = AllDeliverAllowed w.site w.posted
 
 -- each answer that these lines bring about is allowed
 abbrev pub AnswersAllowed : World → List (List ℕ) → Type 0
 AnswersAllowed w [] = Unit {0}
-AnswersAllowed w (line ∷ lines) = (event : Event) → LineSays w.kinds line event → BringsAllowed w event × AnswersAllowed (after w event) lines
+AnswersAllowed w (line ∷ lines) = (event : Event) → LineSays w.site.kinds line event → BringsAllowed w event × AnswersAllowed (after w event) lines
 
 -- Each answer that the lines of a script bring about, the first of them the city line, is allowed, by what the agent holds as its query is delivered.
 abbrev pub ScriptAllowed : List (List ℕ) → Type 0

@@ -10,8 +10,6 @@ use Rattle.iris_json.specs.declared.city.CityError.{CityError}
 use Rattle.iris_json.specs.declared.city.CityError.TheVariants as city
 use Rattle.iris_json.specs.declared.line.LineError.{LineError}
 use Rattle.iris_json.specs.declared.line.LineError.TheVariants as line
-use Rattle.iris_xpath.specs.declared.error.QueryError.{QueryError}
-use Rattle.iris_xpath.specs.declared.error.QueryError.TheVariants as query
 use Rattle.iris_cli.specs.declared.halt.Halt.{Halt}
 use Rattle.iris_cli.specs.declared.halt.Halt.TheVariants.{ReadFault, WriteFault, BadLine, Limit, Memory}
 
@@ -44,11 +42,6 @@ abbrev pub of_line : LineError → Halt
 of_line line.NotJson = BadLine whys.NotJson
 of_line (line.BadLine why) = BadLine (why_of why)
 of_line line.Memory = Memory
-
--- by the error of a query's text
-abbrev pub of_query : QueryError → Halt
-of_query query.Later = BadLine whys.Shape
-of_query query.Memory = Memory
 
 -- the sink is at fault, or there was no memory
 abbrev pub IsOfWriting : Halt → Type 0

@@ -1,5 +1,6 @@
 pub mod Acts
 pub mod Allowed
+pub mod CityChanges
 pub mod Halt
 pub mod LineSays
 pub mod Lines

@@ -1,5 +1,5 @@
 -- What a line is, and what the reader of one line takes.
-use Rattle.std.specs.Prelude.{◌≡◌, ◌≢◌, ℕ, ◌≤◌, ◌<◌, ◌+◌, ◌==◌, false, List, [], ◌∷◌, ◌++◌, length, Result, Ok, Err}
+use Rattle.std.specs.Prelude.{◌≡◌, ◌≢◌, ℕ, ◌≤◌, ◌<◌, ◌+◌, ◌==◌, false, List, [], ◌∷◌, ◌++◌, length, Result, Ok, Err, OnSome}
 use Rattle.std.specs.List.{AllByRecursion}
 use Rattle.std.specs.declared.option.Option.{Option}
 use Rattle.std.specs.Io.KnownBytes.{Consumes, IsAtEnd}
@@ -35,7 +35,7 @@ ended line = line ++ LF ∷ []
 abbrev pub TakesPart : ℕ → Option (List ℕ) → Option (List ℕ) → List ℕ → List ℕ → Result LinePart Fault → Type 0
 TakesPart most old new before after (Ok More) = (part : List ℕ) × (after ≡ before ++ part) × Consumes old new part × NoLf part × (length part ≤ most) × (part ≢ [])
 TakesPart most old new before after (Ok Last) = (part : List ℕ) × (after ≡ before ++ part) × Consumes old new (ended part) × NoLf part × (length part < most)
-TakesPart most old new before after (Ok End) = (after ≡ before) × Consumes old new [] × IsAtEnd new
+TakesPart most old new before after (Ok End) = (after ≡ before) × Consumes old new [] × OnSome old (IsAtEnd new)
 TakesPart most old new before after (Err Failed) = (after ≡ before) × Consumes old new []
 TakesPart most old new before after (Err Memory) = (cut : List ℕ) × Consumes old new cut × NoLf cut
 
@@ -43,8 +43,8 @@ TakesPart most old new before after (Err Memory) = (cut : List ℕ) × Consumes 
 -- Where there was no memory it took bytes without LF.
 abbrev pub TakesLine : ℕ → Option (List ℕ) → Option (List ℕ) → List ℕ → Result NextLine Fault → Type 0
 TakesLine limit old new line (Ok lines.Whole) = Consumes old new (ended line) × IsLine limit line
-TakesLine limit old new line (Ok lines.End) = Consumes old new [] × IsAtEnd new
-TakesLine limit old new line (Ok lines.Cut) = Consumes old new line × IsLine limit line × (line ≢ []) × IsAtEnd new
+TakesLine limit old new line (Ok lines.End) = Consumes old new [] × OnSome old (IsAtEnd new)
+TakesLine limit old new line (Ok lines.Cut) = Consumes old new line × IsLine limit line × (line ≢ []) × OnSome old (IsAtEnd new)
 TakesLine limit old new line (Ok lines.Long) = Consumes old new line × NoLf line × (length line ≡ limit + 1)
 TakesLine limit old new line (Err Failed) = Consumes old new line × IsLine limit line
 TakesLine limit old new line (Err Memory) = (cut : List ℕ) × Consumes old new cut × NoLf cut

@@ -60,7 +60,7 @@ IsRefusedCity line halt = IsNoCityLine line × ((error : CityError) × RefusesCi
 -- the next line is no line of a script where the run stands, and that is told of it
 abbrev pub IsRefused : Option World → List ℕ → Halt → Type 0
 IsRefused None line halt = IsRefusedCity line halt
-IsRefused (Some w) line halt = IsNoEvent w.kinds line × IsToldOf w.kinds line halt
+IsRefused (Some w) line halt = IsNoEvent w.site.kinds line × IsToldOf line halt
 
 -- the rest begins with a line that is refused so, and that was taken
 abbrev pub BeginsRefused : List (List ℕ) → Option World → List ℕ → List ℕ → Halt → Type 0
@@ -87,7 +87,7 @@ IsPast lines w rest left which count = ((front : List ℕ) × (rest ≡ front ++
 abbrev pub WritesFront : List (List ℕ) → Option World → List ℕ → List ℕ → List ℕ → Type 0
 WritesFront lines None rest left part = part ≡ []
 WritesFront lines (Some w) rest left part = (part ≡ [])
-    ⊎ ((line : List ℕ) × (event : Event) × (unwritten : List ℕ) × (rest ≡ ended line ++ left) × LineFollows (length lines) (room_after lines) line × LineSays w.kinds line event × BringsAllowed w event
+    ⊎ ((line : List ℕ) × (event : Event) × (unwritten : List ℕ) × (rest ≡ ended line ++ left) × LineFollows (length lines) (room_after lines) line × LineSays w.site.kinds line event × BringsAllowed w event
     × (out_lines (brings w event) ≡ part ++ unwritten))
 
 -- ---- the last line

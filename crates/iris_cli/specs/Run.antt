@@ -6,7 +6,6 @@ use Rattle.std.specs.Option.{option_map_or}
 use Rattle.iris_base.specs.declared.name.Label.{Label}
 use Rattle.iris_base.specs.declared.cite.Cite.{Cite}
 use Rattle.iris_tree.specs.declared.local.Local.{Local}
-use Rattle.iris_tree.specs.Changes.{apply_changes}
 use Rattle.iris_tree.specs.Universe.{Node, node_at}
 use Rattle.iris_tree.specs.declared.item.Item.{Item}
 use Rattle.iris_tree.specs.Items.{items_at}
@@ -16,7 +15,7 @@ use Rattle.iris_json.specs.CityLine.{ReadsCity}
 use Rattle.iris_json.specs.Out.{out_text}
 use Rattle.iris_xpath.specs.Syntax.{Syntax}
 use Rattle.iris_xpath.specs.Meaning.{selected}
-use Rattle.iris_xpath.specs.ThinMeaning.{full_names}
+use Rattle.iris_xpath.specs.Looks.{full_names}
 use Rattle.iris_book.specs.declared.entry.Entry.{Entry}
 use Rattle.iris_book.specs.declared.entry.Entry.TheVariants as entries
 use Rattle.iris_book.specs.Book.{History, with_entry, latest, value_at, today, last_number_at}
@@ -28,23 +27,24 @@ use Rattle.iris_cli.specs.declared.event.SentUpdate.{SentUpdate}
 use Rattle.iris_cli.specs.declared.session.Posted.{Posted}
 use Rattle.iris_cli.specs.Lines.{ended}
 use Rattle.iris_cli.specs.LineSays.{LineSays}
+use Rattle.iris_cli.specs.CityChanges.{changes_in_city}
 
--- what the one agent holds: what was accepted since the start, and the present moment
+-- what the one agent holds: the kinds of the city, what was accepted since the start, and the present moment
 pub record SiteState : Type 0 where
+  pub kinds : List (List ℕ)
   pub history : History
   pub now : ℕ
 
 -- how proofs store that
 abbrev pub site_code : Coded Node → Coded Entry → Coded SiteState
 site_code document entry =
-    code_by ((Node × List Entry) × ℕ) (coded× (coded× document (coded_list entry)) coded_ℕ)
-    (λ s. ((s.history.start, s.history.entries), s.now))
-    (λ p. record { history = record { start = p.0.0; entries = p.0.1 }; now = p.1 })
+    code_by (List (List ℕ) × ((Node × List Entry) × ℕ)) (coded× (coded_list (coded_list coded_ℕ)) (coded× (coded× document (coded_list entry)) coded_ℕ))
+    (λ s. (s.kinds, ((s.history.start, s.history.entries), s.now)))
+    (λ p. record { kinds = p.0; history = record { start = p.1.0.0; entries = p.1.0.1 }; now = p.1.1 })
     (λ _. refl)
 
--- a city under a script: its kinds, its agent, what that holds, what is posted and not yet delivered, in the order of posting, and how many posts and requests were made
+-- a city under a script: its agent, what that holds, what is posted and not yet delivered, in the order of posting, and how many posts and requests were made
 pub record World : Type 0 where
-  pub kinds : List (List ℕ)
   pub agent : List ℕ
   pub site : SiteState
   pub posted : List Posted
@@ -95,20 +95,20 @@ or_bad_change request (Ok local) = Ok local
 or_bad_change request (Err at) = Err (outs.BadChange at request)
 
 -- what an update makes of a node's value, where there is one, and of the number of its last update; or what is told where it is refused: no node is there, its number is not greater, or a change fails
-abbrev pub made_of : ℕ → Option Local → ℕ → SentUpdate → Result Local Out
-made_of request None last update = Err (outs.NoSuchNode request)
-made_of request (Some local) last update = if nat_le update.no last then Err (outs.Old last request) else or_bad_change request (apply_changes local update.changes)
+abbrev pub made_of : List (List ℕ) → ℕ → Option Local → ℕ → SentUpdate → Result Local Out
+made_of kinds request None last update = Err (outs.NoSuchNode request)
+made_of kinds request (Some local) last update = if nat_le update.no last then Err (outs.Old last request) else or_bad_change request (changes_in_city kinds local update.changes)
 
 -- what an update makes of its node's newest value, or what is told where it is refused
 abbrev pub made_by : SiteState → ℕ → SentUpdate → Result Local Out
-made_by s request update = made_of request (value_at s.history update.name (version_of s update.name)) (last_number s update.name) update
+made_by s request update = made_of s.kinds request (value_at s.history update.name (version_of s update.name)) (last_number s update.name) update
 
 abbrev pub update_out : SiteState → ℕ → SentUpdate → Result Local Out → Out
 update_out s request update (Ok local) = outs.Accepted (version_of s update.name + 1) request
 update_out s request update (Err refusal) = refusal
 
 abbrev pub after_update : SiteState → SentUpdate → Result Local Out → SiteState
-after_update s update (Ok local) = record { history = with_entry s.history (entries.Updated update.name update.no update.changes local s.now); now = s.now }
+after_update s update (Ok local) = record { kinds = s.kinds; history = with_entry s.history (entries.Updated update.name update.no update.changes local s.now); now = s.now }
 after_update s update (Err refusal) = s
 
 -- ---- deliveries
@@ -147,6 +147,7 @@ is_posted w (sent.Update update) = is_some (node_at (today w.site.history) updat
 abbrev pub brings : World → Event → List Out
 brings w (events.Post s) = post_out w s ∷ []
 brings w (events.Audit query) = audit_out w.site w.requests query ∷ []
+brings w (events.BadQuery why) = outs.BadQuery why w.requests ∷ []
 brings w (events.Now at) = if nat_lt at w.site.now then outs.BackInTime w.site.now ∷ [] else []
 brings w events.Settle = all_delivered w.site w.posted ++ outs.Settled (length w.posted) ∷ []
 
@@ -159,7 +160,8 @@ after_post w s = if is_posted w s
 abbrev pub after : World → Event → World
 after w (events.Post s) = after_post w s
 after w (events.Audit query) = record w { requests = w.requests + 1 }
-after w (events.Now at) = if nat_lt at w.site.now then w else record w { site = record { history = w.site.history; now = at } }
+after w (events.BadQuery why) = record w { requests = w.requests + 1 }
+after w (events.Now at) = if nat_lt at w.site.now then w else record w { site = record { kinds = w.site.kinds; history = w.site.history; now = at } }
 after w events.Settle = record w { site = after_all w.site w.posted; posted = [] }
 
 -- ---- lines one after another
@@ -167,11 +169,11 @@ after w events.Settle = record w { site = after_all w.site w.posted; posted = []
 -- what is written by lines after the first, and what they leave
 abbrev pub Runs : World → List (List ℕ) → List ℕ → World → Type 0
 Runs w [] written now = (written ≡ []) × (now ≡ w)
-Runs w (line ∷ lines) written now = (event : Event) × (more : List ℕ) × LineSays w.kinds line event × Runs (after w event) lines more now × (written ≡ out_lines (brings w event) ++ more)
+Runs w (line ∷ lines) written now = (event : Event) × (more : List ℕ) × LineSays w.site.kinds line event × Runs (after w event) lines more now × (written ≡ out_lines (brings w event) ++ more)
 
 -- the city of a city line, with nothing accepted and nothing posted, at the moment 0
 pub record Starts (line : List ℕ) (w : World) : Type 0 where
-  pub is_city : ReadsCity line w.kinds w.agent w.site.history.start
+  pub is_city : ReadsCity line w.site.kinds w.agent w.site.history.start
   pub nothing_accepted : w.site.history.entries ≡ []
   pub begins : w.site.now ≡ 0
   pub nothing_posted : w.posted ≡ []

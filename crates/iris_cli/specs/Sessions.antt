@@ -6,7 +6,7 @@ use Rattle.iris_cli.specs.Run.{World}
 
 -- the city of a session
 abbrev pub world_of : Session → World
-world_of s = record { kinds = s.kinds; agent = s.agent; site = s.site; posted = s.posted.items; posts = s.posts; requests = s.requests }
+world_of s = record { agent = s.agent; site = s.site; posted = s.posted.items; posts = s.posts; requests = s.requests }
 
 -- no more posts than requests were made, and no more of these than a script has lines, so that each has a number
 abbrev pub HasNumbers : World → Type 0

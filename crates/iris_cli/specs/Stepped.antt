@@ -31,12 +31,12 @@ RefusesCityLine line WriteFault = ⊥
 -- a front of what the line brings about was added
 abbrev pub AddsFront : World → List ℕ → Option (List ℕ) → Option (List ℕ) → Type 0
 AddsFront w line old new = Appends old new []
-    ⊎ ((event : Event) × LineSays w.kinds line event × IsPartOf old new (out_lines (brings w event)))
+    ⊎ ((event : Event) × LineSays w.site.kinds line event × IsPartOf old new (out_lines (brings w event)))
 
 -- the line was done, or why not
 abbrev pub Stepped : World → World → List ℕ → Option (List ℕ) → Option (List ℕ) → Result (Unit {0}) Halt → Type 0
-Stepped w next line old new (Ok u) = (event : Event) × LineSays w.kinds line event × (next ≡ after w event) × Appends old new (out_lines (brings w event))
-Stepped w next line old new (Err (BadLine why)) = IsNoEvent w.kinds line × IsToldOf w.kinds line (BadLine why) × Appends old new []
+Stepped w next line old new (Ok u) = (event : Event) × LineSays w.site.kinds line event × (next ≡ after w event) × Appends old new (out_lines (brings w event))
+Stepped w next line old new (Err (BadLine why)) = IsNoEvent w.site.kinds line × IsToldOf line (BadLine why) × Appends old new []
 Stepped w next line old new (Err (Limit which count)) = ⊥
 Stepped w next line old new (Err WriteFault) = AddsFront w line old new
 Stepped w next line old new (Err Memory) = AddsFront w line old new

@@ -1,5 +1,5 @@
 -- What the reader of a script takes of its source for the next line, and which limit that passes.
-use Rattle.std.specs.Prelude.{◌≡◌, ◌≢◌, ℕ, zero, suc, ◌+◌, ◌≤◌, ◌<◌, Bool, true, false, List, [], ◌∷◌, ◌++◌, length, Option, Result, Ok, Err}
+use Rattle.std.specs.Prelude.{◌≡◌, ◌≢◌, ℕ, zero, suc, ◌+◌, ◌≤◌, ◌<◌, Bool, true, false, List, [], ◌∷◌, ◌++◌, length, Option, Result, Ok, Err, OnSome}
 use Rattle.std.specs.Io.KnownBytes.{Consumes, IsAtEnd}
 use Rattle.iris_base.specs.declared.limits.TheConstants.{MAX_CITY_BYTES, MAX_LINE_BYTES, MAX_SCRIPT_BYTES, MAX_LINES}
 use Rattle.iris_json.specs.declared.out.Which.{Which}
@@ -44,6 +44,8 @@ IsPastLimit number room front limits.Nodes = ⊥
 IsPastLimit number room front limits.Depth = ⊥
 IsPastLimit number room front limits.Children = ⊥
 IsPastLimit number room front limits.Attributes = ⊥
+IsPastLimit number room front limits.Plain = ⊥
+IsPastLimit number room front limits.PlainDepth = ⊥
 IsPastLimit number room front limits.Local = ⊥
 
 -- these bytes pass that limit, and none before it in the list `line`, `script`, `lines`
@@ -55,6 +57,8 @@ IsFirstLimit number room front limits.Nodes = ⊥
 IsFirstLimit number room front limits.Depth = ⊥
 IsFirstLimit number room front limits.Children = ⊥
 IsFirstLimit number room front limits.Attributes = ⊥
+IsFirstLimit number room front limits.Plain = ⊥
+IsFirstLimit number room front limits.PlainDepth = ⊥
 IsFirstLimit number room front limits.Local = ⊥
 
 -- the limit of the next line: of its bytes, of those of the script, of lines
@@ -66,6 +70,8 @@ limit_of number limits.Nodes = 0
 limit_of number limits.Depth = 0
 limit_of number limits.Children = 0
 limit_of number limits.Attributes = 0
+limit_of number limits.Plain = 0
+limit_of number limits.PlainDepth = 0
 limit_of number limits.Local = 0
 
 -- The last of these bytes of the next line is the first that passes a limit. Of the limits that it passes this is the first in the list, and the count is one more than it.
@@ -82,11 +88,11 @@ pub record PassesLimit (number room : ℕ) (front : List ℕ) (which : Which) (c
 -- What is taken for the next line: it and its LF; or nothing at the end of the text; or why neither.
 abbrev pub TakesNext : ScriptState → Option (List ℕ) → Option (List ℕ) → ScriptState → Result Bool Halt → Type 0
 TakesNext s old new t (Ok true) = Consumes old new (ended t.line) × LineFollows s.number s.room t.line × (t.number ≡ s.number + 1) × (t.room + length (ended t.line) ≡ s.room)
-TakesNext s old new t (Ok false) = Consumes old new [] × IsAtEnd new × (0 < s.number)
+TakesNext s old new t (Ok false) = Consumes old new [] × OnSome old (IsAtEnd new) × (0 < s.number)
 TakesNext s old new t (Err ReadFault) = (cut : List ℕ) × Consumes old new cut × IsWithinLimits s.number s.room cut
 TakesNext s old new t (Err WriteFault) = ⊥
-TakesNext s old new t (Err (BadLine whys.Empty)) = Consumes old new [] × IsAtEnd new × (s.number ≡ 0) × (t.number ≡ s.number + 1)
-TakesNext s old new t (Err (BadLine whys.Truncated)) = (cut : List ℕ) × Consumes old new cut × IsWithinLimits s.number s.room cut × (cut ≢ []) × IsAtEnd new × (t.number ≡ s.number + 1)
+TakesNext s old new t (Err (BadLine whys.Empty)) = Consumes old new [] × OnSome old (IsAtEnd new) × (s.number ≡ 0) × (t.number ≡ s.number + 1)
+TakesNext s old new t (Err (BadLine whys.Truncated)) = (cut : List ℕ) × Consumes old new cut × IsWithinLimits s.number s.room cut × (cut ≢ []) × OnSome old (IsAtEnd new) × (t.number ≡ s.number + 1)
 TakesNext s old new t (Err (BadLine whys.NotJson)) = ⊥
 TakesNext s old new t (Err (BadLine whys.Shape)) = ⊥
 TakesNext s old new t (Err (BadLine whys.Name)) = ⊥

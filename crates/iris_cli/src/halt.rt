@@ -4,7 +4,6 @@ ghost use Rattle.iris_cli.specs.Halt.{of_source, of_sink, why_of};
 
 use iris_json::{CityError, LineError, LineWhy, Which, Why};
 use iris_tree::{Fault, Memory};
-use iris_xpath::QueryError;
 use std::alloc::{AllocError, AllocFailed};
 
 /// Why a script goes no further.
@@ -116,20 +115,6 @@ impl From<LineError> for Halt {
             LineError::NotJson => Halt::BadLine { why: Why::NotJson },
             LineError::BadLine { why } => Halt::BadLine { why: why_of(why) },
             LineError::Memory => Halt::Memory,
-        }
-    }
-}
-
-impl From<QueryError> for Halt {
-    ghost use Rattle.std.specs.Prelude.{◌≡◌};
-    ghost use Rattle.iris_cli.specs.Halt.{of_query};
-
-    ghost from_gives = { λ error halt. halt ≡ of_query error };
-
-    fn from(error: QueryError) -> Halt {
-        match error {
-            QueryError::Later => Halt::BadLine { why: Why::Shape },
-            QueryError::Memory => Halt::Memory,
         }
     }
 }

@@ -10,8 +10,8 @@ use crate::event::{Event, Sent};
 use crate::halt::Halt;
 use crate::sink::Sink;
 use crate::site::Site;
-use iris_json::{City, Out, Why, read_city, write_out};
-use iris_tree::{AgentId, Kind, Mem, Sequence};
+use iris_json::{City, Out, QueryFault, Why, read_city, write_out};
+use iris_tree::{AgentId, Mem};
 use iris_xpath::Query;
 use std::alloc::Global;
 use std::collections::VecDeque;
@@ -27,8 +27,6 @@ pub struct Posted {
 /// A city of one agent, and what is posted to it.
 #[derive(Drop)]
 pub struct Session {
-    /// The kinds of the city's nodes.
-    pub kinds: Sequence<Kind>,
     pub agent: AgentId,
     pub site: Site,
     /// In the order of posting.
@@ -82,9 +80,8 @@ impl Session {
             return Err(Halt::BadLine { why: Why::Shape });
         };
         Ok(Session {
-            kinds,
             agent: *agent,
-            site: Site::new(alloc, tree)?,
+            site: Site::new(alloc, kinds, tree)?,
             posted: VecDeque::new(alloc),
             posts: 0,
             requests: 0,
@@ -132,6 +129,21 @@ impl Session {
         put(alloc, &out, sink)
     }
 
+    // Tells why a text is no query.
+    fn refuse<K: Sink>(
+        &mut self,
+        alloc: Global,
+        why: QueryFault,
+        sink: &mut K,
+    ) -> Result<(), Halt>
+        requires numbers { HasNumbers (world_of self.old) }
+        ensures acts { Acts (world_of self.old) (world_of self.new) (Event.BadQuery why) (K.held sink.old) (K.held sink.new) (K.faults sink.old) (K.faults sink.new) result }
+    {
+        let request = self.requests;
+        self.requests += 1;
+        put(alloc, &Out::BadQuery { why, request }, sink)
+    }
+
     // Puts the time forward, or tells that it would go back.
     fn advance<K: Sink>(&mut self, alloc: Global, at: u64, sink: &mut K) -> Result<(), Halt>
         ensures acts { Acts (world_of self.old) (world_of self.new) (Event.Now at) (K.held sink.old) (K.held sink.new) (K.faults sink.old) (K.faults sink.new) result }
@@ -160,6 +172,7 @@ impl Session {
         match event {
             Event::Post { sent } => self.put_post(alloc, sent, sink),
             Event::Audit { query } => self.audit(alloc, &query, sink),
+            Event::BadQuery { why } => self.refuse(alloc, why, sink),
             Event::Now { at } => self.advance(alloc, at, sink),
             Event::Settle => self.settle(alloc, sink),
         }
@@ -171,7 +184,7 @@ impl Session {
         ensures stepped { Stepped (world_of self.old) (world_of self.new) line.now (K.held sink.old) (K.held sink.new) result }
         ensures cause { HasCause Halt.WriteFault (K.faults sink.old) (K.faults sink.new) result }
     {
-        let event = Event::read(alloc, self.kinds.as_slice(), line)?;
+        let event = Event::read(alloc, self.site.kinds(), line)?;
         self.act(alloc, event, sink)
     }
 }

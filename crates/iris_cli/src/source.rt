@@ -1,13 +1,13 @@
 //! Sources of bytes that count their faults: one in memory, and one over a reader of the standard
 //! library.
 
-ghost use Rattle.std.specs.Prelude.{◌≡◌, ℕ, List, Some, None, true, false, take, drop, ◌≤◌, ◌<◌, length, [], IfOk, IfErr};
+ghost use Rattle.std.specs.Prelude.{◌≡◌, ℕ, List, Some, None, true, false, take, drop, ◌+◌, ◌≤◌, ◌<◌, length, [], Ok, IfOk, IfErr, OnErr};
 ghost use Rattle.std.specs.Io.{ReadsAtMost};
-ghost use Rattle.std.specs.Io.KnownBytes.{ReadConsumes};
+ghost use Rattle.std.specs.Io.KnownBytes.{Keeps, ReadConsumes};
 ghost use Rattle.std.specs.IoError.{error_kind};
 ghost use Rattle.std.specs.declared.option.Option.{Option};
 ghost use Rattle.iris_base.specs.Outside.{HasCause};
-ghost use Rattle.iris_cli.specs.Lines.{TakesPart, NoLf};
+ghost use Rattle.iris_cli.specs.Lines.{TakesPart, NoLf, ended};
 
 use iris_tree::{Fault, MAX_TRIES, count_fault};
 use memchr::memchr;
@@ -116,8 +116,8 @@ impl Source for MemorySource {
     }
 }
 
-/// A reader of the standard library behind a buffer. It
-/// does not tell what is left. A read that is interrupted is made again, up to `MAX_TRIES` times in all.
+/// A reader of the standard library behind a buffer. It tells what is left where the reader does, as one over
+/// a slice; standard input doesn't. A read that is interrupted is made again, up to `MAX_TRIES` times in all.
 #[derive(Drop)]
 pub struct StdSource<R: Read + Drop> {
     reader: BufReader<R>,
@@ -127,7 +127,7 @@ pub struct StdSource<R: Read + Drop> {
 // How many of these bytes are before the first LF, and whether there is one.
 fn before_lf(bytes: &[u8]) -> (usize, bool)
     ensures within { result.0 ≤ length bytes.now }
-    ensures lf { result.1 ≡ true → result.0 < length bytes.now }
+    ensures lf { result.1 ≡ true → (result.0 < length bytes.now) × (take (result.0 + 1) bytes.now ≡ ended (take result.0 bytes.now)) }
     ensures no_lf { NoLf (take result.0 bytes.now) }
     ensures some { 0 < length bytes.now → result.1 ≡ false → 0 < result.0 }
 {
@@ -137,10 +137,32 @@ fn before_lf(bytes: &[u8]) -> (usize, bool)
     }
 }
 
+// Takes bytes of a line from those that the reader has at hand, at most `most`, and an LF that is right
+// behind them. After an error nothing was taken.
+fn take_part<B: BufRead>(reader: &mut B, line: &mut Vec<u8>, most: usize) -> io::Result<LinePart>
+    requires { 0 < most }
+    ensures ok { IfOk result (λ part. TakesPart most (B.remaining reader.old) (B.remaining reader.new) line.old.items line.new.items (Ok part)) }
+    ensures err { OnErr result ((line.new.items ≡ line.old.items) × Keeps (B.remaining reader.old) (B.remaining reader.new)) }
+{
+    let bytes = reader.fill_buf()?;
+    if bytes.is_empty() {
+        return Ok(LinePart::End);
+    }
+    let (count, has_lf) = before_lf(&bytes[..bytes.len().min(most)]);
+    line.extend_from_slice(&bytes[..count])?;
+    if has_lf {
+        reader.consume(count + 1);
+        return Ok(LinePart::Last);
+    }
+    reader.consume(count);
+    Ok(LinePart::More)
+}
+
 impl<R: Read + Drop> StdSource<R> {
     /// A source of what `reader` gives. Where there is no memory for the buffer, the reader is
     /// dropped.
     pub fn new(alloc: Global, reader: R) -> io::Result<StdSource<R>>
+        ensures left { IfOk result (λ source. ⟦<StdSource<R> as Source>⟧.left source ≡ R.remaining reader) }
         ensures faults { IfOk result (λ source. ⟦<StdSource<R> as Source>⟧.faults source ≡ 0) }
         ensures memory { IfErr result (λ e. error_kind e ≡ ErrorKind.OutOfMemory) }
     {
@@ -150,7 +172,7 @@ impl<R: Read + Drop> StdSource<R> {
 }
 
 impl<R: Read + Drop> Source for StdSource<R> {
-    ghost left = { λ _. None };
+    ghost left = { λ s. ⟦<BufReader<R> as Read>⟧.remaining s.reader };
 
     ghost faults = { λ s. s.faults };
 
@@ -170,20 +192,8 @@ impl<R: Read + Drop> Source for StdSource<R> {
 
     fn take_until_lf(&mut self, line: &mut Vec<u8>, most: usize) -> Result<LinePart, Fault> {
         for _ in 0..MAX_TRIES {
-            match self.reader.fill_buf() {
-                Ok([]) => return Ok(LinePart::End),
-                Ok(bytes) => {
-                    let (count, has_lf) = before_lf(&bytes[..bytes.len().min(most)]);
-                    if line.extend_from_slice(&bytes[..count]).is_err() {
-                        return Err(Fault::Memory);
-                    }
-                    if has_lf {
-                        self.reader.consume(count + 1);
-                        return Ok(LinePart::Last);
-                    }
-                    self.reader.consume(count);
-                    return Ok(LinePart::More);
-                }
+            match take_part(&mut self.reader, line, most) {
+                Ok(part) => return Ok(part),
                 Err(error) if error.kind() == ErrorKind::Interrupted => {}
                 Err(error) if error.kind() == ErrorKind::OutOfMemory => {
                     return Err(Fault::Memory);

@@ -1,4 +1,4 @@
-use Rattle.std.proofs.Common.{◌≡◌, ◌<◌, min, ap, ◌∙◌, arith}
+use Rattle.std.proofs.Common.{◌≡◌, ◌<◌, ap, ◌∙◌, arith}
 use Rattle.iris_base.specs.declared.limits.TheConstants.{MAX_LINES}
 use Rattle.iris_cli.specs.Taken.{ScriptState, max_line_bytes}
 use Rattle.iris_cli.proofs.Taken.{past_line, past_script}
