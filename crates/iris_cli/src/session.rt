@@ -130,12 +130,7 @@ impl Session {
     }
 
     // Tells why a text is no query.
-    fn refuse<K: Sink>(
-        &mut self,
-        alloc: Global,
-        why: QueryFault,
-        sink: &mut K,
-    ) -> Result<(), Halt>
+    fn refuse<K: Sink>(&mut self, alloc: Global, why: QueryFault, sink: &mut K) -> Result<(), Halt>
         requires numbers { HasNumbers (world_of self.old) }
         ensures acts { Acts (world_of self.old) (world_of self.new) (Event.BadQuery why) (K.held sink.old) (K.held sink.new) (K.faults sink.old) (K.faults sink.new) result }
     {

@@ -55,11 +55,7 @@ fn first_kind_put(kinds: &[Kind], changes: &[Change]) -> Option<usize>
 }
 
 // The local information after all these changes, in a city with nodes of these kinds.
-fn change_in_city(
-    kinds: &[Kind],
-    local: &Local,
-    changes: &[Change],
-) -> Result<Local, ChangeError>
+fn change_in_city(kinds: &[Kind], local: &Local, changes: &[Change]) -> Result<Local, ChangeError>
     ensures ok { IfOk result (λ changed. changes_in_city kinds.now local.now changes.now ≡ Ok changed) }
     ensures err { IfErr result (λ error. RefusesInCity kinds.now local.now changes.now error) }
 {
@@ -165,12 +161,7 @@ impl Site {
     }
 
     // What an update makes of its node's newest value, or what is told where it is refused.
-    fn make(
-        &self,
-        newest: &Newest,
-        request: u64,
-        update: &SentUpdate,
-    ) -> Mem<Result<Local, Out>>
+    fn make(&self, newest: &Newest, request: u64, update: &SentUpdate) -> Mem<Result<Local, Out>>
         ensures { IfOk result (λ made. made ≡ made_of self.now.kinds request (Some newest.now.local.now) newest.now.number update.now) }
     {
         let last = newest.number;

@@ -1,16 +1,18 @@
 //! Evaluations of queries over a whole document.
 ghost use Rattle.std.specs.Prelude.{◌≡◌, map, IfOk};
+ghost use Rattle.std.specs.List.{filter_map};
 ghost use Rattle.std.specs.List.Sorted.{IsStrictlySortedBy};
 ghost use Rattle.iris_tree.specs.Items.{items_at};
 ghost use Rattle.iris_xpath.specs.Meaning.{selected};
-ghost use Rattle.iris_xpath.specs.ThinMeaning.{full_names};
+ghost use Rattle.iris_xpath.specs.Looks.{full_names};
 ghost use Rattle.iris_xpath.specs.PlaceOrder.{place_cmp};
 ghost use Rattle.iris_select.specs.Places.{edges_of};
 ghost use Rattle.iris_select.specs.Selected.{place_of_selected, selected_item};
 
 use crate::place::Place;
+use crate::spot::Spot;
 use crate::walk::{Selected, walk};
-use iris_tree::{Element, Item, Mem, Name, Sequence, Tree};
+use iris_tree::{Element, Item, Mem, Name, Tree};
 use iris_xpath::Query;
 use std::alloc::Global;
 
@@ -20,8 +22,7 @@ pub struct Evaluation {
     /// The selected places, in the order of places, each once.
     pub places: Vec<Place>,
     /// The names of the nodes whose own attributes or plain elements it looked at, in the order of
-    /// names, each once: those at which it evaluated a predicate on another attribute than `@id`, and
-    /// all at or under a selected place.
+    /// names, each once.
     pub full: Vec<Name>,
 }
 
@@ -34,29 +35,32 @@ pub struct ItemEvaluation {
     pub full: Vec<Name>,
 }
 
-// The places of selected nodes.
-fn places_of(alloc: Global, nodes: Vec<Selected>) -> Mem<Vec<Place>>
-    ensures { IfOk result (λ places. map edges_of places.items ≡ map place_of_selected nodes.entry.items) }
+// The selected places.
+fn places_of(alloc: Global, all: Vec<Selected>) -> Mem<Vec<Place>>
+    ensures { IfOk result (λ places. places.items ≡ map place_of_selected all.entry.items) }
 {
-    let mut places = Vec::with_capacity(alloc, nodes.len())?;
-    for selected in nodes {
-        places.push(Place {
-            name: selected.name,
-            path: Sequence::new(alloc),
-        })?;
+    let mut places = Vec::with_capacity(alloc, all.len())?;
+    for selected in all {
+        places.push(selected.place)?;
     }
     Ok(places)
 }
 
-// Selected nodes as items, of which each is a copy.
-fn items_of(alloc: Global, nodes: Vec<Selected>) -> Mem<Vec<Item>>
-    ensures { IfOk result (λ items. items.items ≡ map selected_item nodes.entry.items) }
+// What stands at the selected places, as items, of which each is a copy.
+fn items_of(alloc: Global, all: Vec<Selected>) -> Mem<Vec<Item>>
+    ensures { IfOk result (λ items. items.items ≡ filter_map selected_item all.entry.items) }
 {
-    let mut items = Vec::with_capacity(alloc, nodes.len())?;
-    for selected in nodes {
+    let mut items = Vec::with_capacity(alloc, all.len())?;
+    for selected in all {
+        let Selected { place, spot } = selected;
+        let element = match spot {
+            Spot::Document => continue,
+            Spot::Node(node) => Element::Node(node.copy()?),
+            Spot::Plain(plain) => Element::Plain(plain.copy()?),
+        };
         items.push(Item {
-            at: selected.name,
-            is: Element::Node(selected.node.copy()?),
+            at: place.name,
+            is: element,
         })?;
     }
     Ok(items)

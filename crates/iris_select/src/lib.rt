@@ -2,10 +2,15 @@
 #![tactic(auto)]
 
 mod evaluation;
+mod evaluator;
 mod items;
+mod marks;
+mod number;
 mod place;
+mod spot;
 #[cfg(test)]
 mod tests;
+mod value;
 mod walk;
 
 pub use evaluation::{Evaluation, ItemEvaluation, evaluate, evaluate_items, select};

@@ -1,97 +1,106 @@
-//! Each call once: what queries select in a city and look at, and their answers.
+//! What queries select in a small document, and what they look into.
 
 use crate::evaluation::{evaluate, evaluate_items, select};
-use crate::items::{answer, items_at};
-use iris_json::{read_city, write_items};
-use iris_tree::{Attrs, Id, Kind, Label, Local, Name, Plain, Sequence, Tag, Text, Tree, name_text};
+use crate::items::items_at;
+use iris_tree::{Attrs, Id, Kind, Label, Local, Plain, Sequence, Tag, Text, Tree, name_text};
 use iris_xpath::parse;
 use std::alloc::Global;
-use std::str;
 use std::test::Fail;
 
-// A block with three spaces, of which the second is free.
-const CITY: &str =
-    r#"{"kinds":["block","space"],"agents":["a"],"place":[["block-1","a"]],"tree":{"kind":"block","id":"1","nodes":[{"kind":"space","id":"1","attrs":{"free":"no"}},{"kind":"space","id":"2","attrs":{"free":"yes"}},{"kind":"space","id":"3"}]}}"#;
+fn label(kind: &str, id: &str) -> Result<Label, Fail> {
+    Ok(Label {
+        kind: Kind::new(kind)?,
+        id: Id::new(id)?,
+    })
+}
 
-const SECOND: &str =
-    r#"[{"at":"space-2.block-1","is":{"attrs":{"free":"yes"},"id":"2","kind":"space","nodes":[],"plain":[]}}]"#;
+fn plain(alloc: Global, tag: &str, text: &str) -> Result<Plain, Fail> {
+    Ok(Plain {
+        tag: Tag::new(tag)?,
+        attrs: Attrs::new(alloc),
+        text: Text::new(alloc, text)?,
+        kids: Sequence::new(alloc),
+    })
+}
 
-// The texts of names, with a blank behind each.
-fn texts(alloc: Global, names: &[Name]) -> Result<String, Fail> {
-    let mut all = String::new(alloc);
-    for name in names {
-        all.push_str(name_text(alloc, name)?.as_str())?;
-        all.push(' ')?;
+// A space with an attribute and two plain elements, of which the first has one inside.
+fn space(alloc: Global, id: &str, price: &str, note: &str) -> Result<Tree, Fail> {
+    let mut local = Local::new(alloc);
+    local
+        .attrs
+        .insert(Tag::new("price")?, Text::new(alloc, price)?)?;
+    let mut sign = plain(alloc, "sign", "")?;
+    sign.kids.push(plain(alloc, "note", note)?)?;
+    local.plain.push(sign)?;
+    local.plain.push(plain(alloc, "note", "7")?)?;
+    Ok(Tree::new(alloc, label("space", id)?, local))
+}
+
+// A block with three spaces.
+fn block(alloc: Global) -> Result<Tree, Fail> {
+    let mut top = Tree::new(alloc, label("block", "1")?, Local::new(alloc));
+    top.insert(space(alloc, "1", " 10 ", "x")?)?;
+    top.insert(space(alloc, "2", "9", "y")?)?;
+    top.insert(space(alloc, "3", "none", "7")?)?;
+    Ok(top)
+}
+
+// The kinds of that document.
+fn kinds() -> Result<[Kind; 2], Fail> {
+    Ok([Kind::new("block")?, Kind::new("space")?])
+}
+
+// How many places a query selects, and the names of the nodes that it looks into.
+fn told(alloc: Global, top: &Tree, text: &str) -> Result<String, Fail> {
+    let found = evaluate(alloc, top, &parse(alloc, text, &kinds()?)?)?;
+    let mut told = format!(in alloc; "{}", found.places.len())?;
+    for name in &found.full {
+        told.push(' ')?;
+        told.push_str(name_text(alloc, name)?.as_str())?;
     }
-    Ok(all)
+    Ok(told)
 }
 
 #[test]
 fn selects_and_looks(rt: HostRuntime) -> Result<(), Fail> {
     let alloc = rt.alloc();
-    let city = read_city(alloc, CITY.as_bytes())?;
-    for (text, count, full, wanted) in [
+    let top = block(alloc)?;
+    for (text, wanted) in [
+        ("/block/space[@id='2']", "1 space-2.block-1"),
         (
-            "/block/space[@free='yes']",
-            1,
-            "space-1.block-1 space-2.block-1 space-3.block-1 ",
-            SECOND,
+            "/block/space[@price!=9]",
+            "2 space-1.block-1 space-2.block-1 space-3.block-1",
         ),
         (
-            "/block/space[@id='2'][@free='no']",
-            0,
-            "space-2.block-1 ",
-            "[]",
+            "//*//*",
+            "12 block-1 space-1.block-1 space-2.block-1 space-3.block-1",
         ),
-        ("/space", 0, "", "[]"),
+        (
+            "/block/space[@id='1' and @id='2' or @price>9]",
+            "1 space-1.block-1 space-2.block-1 space-3.block-1",
+        ),
+        (
+            "//note[../../@id='3']",
+            "1 block-1 space-1.block-1 space-2.block-1 space-3.block-1",
+        ),
+        (
+            "/block[.//@id='3' and not(space/note=8)]",
+            "1 block-1 space-1.block-1 space-2.block-1 space-3.block-1",
+        ),
+        ("/space", "0"),
     ] {
-        let query = parse(alloc, text, city.kinds.as_slice())?;
-        let found = evaluate(alloc, &city.tree, &query)?;
-        assert_eq!(rt; found.places.len(), count, "at {text}");
-        assert_eq!(rt; texts(alloc, &found.full)?.as_str(), full, "at {text}");
-        let items = evaluate_items(alloc, &city.tree, &query)?;
-        assert!(rt; items.full == found.full, "at {text}");
-        assert_eq!(rt;
-            str::from_utf8(&write_items(alloc, &items.items)?)?,
-            wanted,
-            "at {text}"
-        );
-        assert_eq!(rt;
-            str::from_utf8(&answer(alloc, &city.tree, &query)?)?,
-            wanted,
-            "at {text}"
-        );
+        assert_eq!(rt; told(alloc, &top, text)?.as_str(), wanted, "at {text}");
     }
     Ok(())
 }
 
 #[test]
-fn items_of_plain_elements(rt: HostRuntime) -> Result<(), Fail> {
+fn items_at_selected_places(rt: HostRuntime) -> Result<(), Fail> {
     let alloc = rt.alloc();
-    let mut local = Local::new(alloc);
-    local.plain.push(Plain {
-        tag: Tag::new("note")?,
-        attrs: Attrs::new(alloc),
-        text: Text::new(alloc, "x")?,
-        kids: Sequence::new(alloc),
-    })?;
-    let kind = Kind::new("block")?;
-    let id = Id::new("1")?;
-    let tree = Tree::new(alloc, Label { kind, id }, local);
-    let query = parse(alloc, "/block", &[kind])?;
-    for (position, wanted) in [
-        (
-            0,
-            r#"[{"at":"block-1","is":{"attrs":{},"kids":[],"tag":"note","text":"x"}}]"#,
-        ),
-        (1, "[]"),
-    ] {
-        let mut places = select(alloc, &tree, &query)?;
-        for place in &mut places {
-            place.path.push(position)?;
-        }
-        let bytes = write_items(alloc, &items_at(alloc, &tree, &places)?)?;
-        assert_eq!(rt; str::from_utf8(&bytes)?, wanted);
-    }
+    let top = block(alloc)?;
+    let query = parse(alloc, "//note", &kinds()?)?;
+    let items = items_at(alloc, &top, &select(alloc, &top, &query)?)?;
+    let found = evaluate_items(alloc, &top, &query)?;
+    assert_eq!(rt; (items.len(), found.items.len()), (6, 6));
     Ok(())
 }

@@ -1,95 +1,56 @@
-//! The walk that finds what a query selects.
-ghost use Rattle.std.specs.Prelude.{◌≡◌, ◌++◌, ◌∷◌, true, map, Some, IfOk, IfSome, OnOk};
-ghost use Rattle.iris_tree.specs.Universe.{nodes_of, children_of, IsOrdered};
-ghost use Rattle.iris_tree.specs.Document.{a_node};
+//! The walk along the main path of a query.
+ghost use Rattle.std.specs.Prelude.{◌≡◌, ◌&&◌, ◌++◌, ◌∷◌, [], false, Some, None, map, option_map, IfOk, OnOk, IfSome};
+ghost use Rattle.std.specs.List.{list_any, filter_map};
+ghost use Rattle.iris_tree.specs.Universe.{IsOrdered};
+ghost use Rattle.iris_tree.specs.Document.{part_at_place};
 ghost use Rattle.iris_tree.specs.Items.{items_at};
-ghost use Rattle.iris_xpath.specs.Meaning.{selected};
-ghost use Rattle.iris_xpath.specs.ThinMeaning.{holds, fits, tested_with_a_look, full_names};
-ghost use Rattle.iris_xpath.specs.ThinQuery.{is_thin_step, is_thin, thin_step, thin_of};
-ghost use Rattle.iris_xpath.specs.Walk.{names_from, looked_at, all_looked_at, IsOnlyFor};
-ghost use Rattle.iris_select.specs.Selected.{place_of_selected, selected_item, items_led_to, all_items_led_to};
+ghost use Rattle.iris_xpath.specs.Syntax.{main_of};
+ghost use Rattle.iris_xpath.specs.Meaning.{passes, fits, selected};
+ghost use Rattle.iris_xpath.specs.Looks.{extent_of, looks_from, all_look, whole_looks, full_names};
+ghost use Rattle.iris_select.specs.Evaluating.{document_of, place_in, Stands, IsBack, all_conditions};
+ghost use Rattle.iris_select.specs.Marks.{HasLooked};
+ghost use Rattle.iris_select.specs.Parts.{child, edge_of, part_of, part_below, place_at};
+ghost use Rattle.iris_select.specs.Places.{edges_of};
+ghost use Rattle.iris_select.specs.Selected.{Adds, places_selected, selected_item};
+ghost use Rattle.iris_select.specs.Looking.{path_looks_at, looks_found_at, looks_found_below, IsOnlyLook, AreOnlyLooks};
+ghost use Rattle.iris_select.specs.Walking.{further, ends_here, found_here, found_at, found_below, main_steps, taken, IsOnlyLabel, IsOnlyChild, labels_in, positions_in};
 
-use iris_tree::{Id, Label, Mem, Name, Tree, is_id};
-use iris_xpath::{Expression, Query, Step};
+use crate::evaluator::Evaluator;
+use crate::marks::Marks;
+use crate::place::Place;
+use crate::spot::{Edge, Spot};
+use iris_tree::{Id, Label, Mem, Memory, Name, Sequence, Tree, is_id};
+use iris_xpath::{Expression, Query, Separator, Step};
 use std::alloc::Global;
 
-// A selected node, and its name.
+// A selected place, and what stands there.
 #[derive(Drop)]
 pub struct Selected<'a> {
-    pub name: Name,
-    pub node: &'a Tree,
+    pub place: Place,
+    pub spot: Spot<'a>,
 }
 
-// What a walk found so far, in the order of names.
+// What a walk found.
 #[derive(Drop)]
 pub struct Found<'a> {
+    // In the order of places.
     pub selected: Vec<Selected<'a>>,
-    // The names of the nodes that were looked at, as those of an `Evaluation`.
+    // The names of the nodes that were looked into, as those of an `Evaluation`.
     pub full: Vec<Name>,
 }
 
-// How a step came out at a node.
-#[derive(Clone, Copy)]
-struct Tested {
-    // The node is of the kind, and all predicates hold.
-    passes: bool,
-    // A predicate that was evaluated is on another attribute than `@id`.
-    looks: bool,
+#[derive(Drop)]
+struct Walker<'a> {
+    evaluator: Evaluator<'a>,
+    steps: &'a [Step<Expression>],
+    selected: Vec<Selected<'a>>,
 }
 
-// Whether the attribute of that name has that text at a node.
-fn holds(node: &Tree, name: &str, value: &str) -> bool
-    ensures { result ≡ holds (a_node node.now) (record { name = name.now; value = value.now }) }
-{
-    if is_id(name) {
-        return node.label().id.as_str() == value;
-    }
-    match node.local().attrs.get(name) {
-        Some(found) => found == value,
-        None => false,
-    }
-}
-
-// Tests a node by its kind, and then by the predicates one after another, up to the first that is false.
-fn test(node: &Tree, step: &Step<Expression>) -> Tested
-    requires thin { is_thin_step step.now ≡ true }
-    ensures passes { result.passes ≡ fits (Some (a_node node.now)) (thin_step step.now) }
-    ensures looks { result.looks ≡ tested_with_a_look (Some (a_node node.now)) (thin_step step.now) }
-{
-    let Some(kind) = step.kind() else {
-        unreachable!()
-    };
-    if node.label().kind != *kind {
-        return Tested {
-            passes: false,
-            looks: false,
-        };
-    }
-    let mut looks = false;
-    for predicate in step.predicates.as_slice() {
-        let Some((name, value)) = predicate.as_equality() else {
-            unreachable!()
-        };
-        if !is_id(name) {
-            looks = true;
-        }
-        if !holds(node, name, value) {
-            return Tested {
-                passes: false,
-                looks,
-            };
-        }
-    }
-    Tested {
-        passes: true,
-        looks,
-    }
-}
-
-// The label that a node is to have so that it passes the step or is looked at. There is one where the
-// first predicate is on `@id` and its text is an id.
+// The label of the nodes at which the step may be taken. There is one where the first predicate is
+// `@id='..'` and its text is an id.
 fn only_label(step: &Step<Expression>) -> Option<Label>
-    ensures { IfSome result (λ label. IsOnlyFor label (thin_step step.now)) }
+    ensures fits { IfSome result (λ label. IsOnlyLabel (main_of step.now) label) }
+    ensures looks { IfSome result (λ label. IsOnlyLook (main_of step.now) label) }
 {
     let kind = step.kind()?;
     let (name, value) = step.predicates.as_slice().first()?.as_equality()?;
@@ -102,99 +63,213 @@ fn only_label(step: &Step<Expression>) -> Option<Label>
     }
 }
 
-// Adds the name of a node, and those of all below it. The name grows and shrinks on the way, so that
-// each is made once.
-fn add_all(node: &Tree, name: &mut Name, full: &mut Vec<Name>) -> Mem<()>
-    ensures name { OnOk result (name.new ≡ name.old) }
-    ensures full { OnOk result (full.new.items ≡ full.old.items ++ names_from name.old node.now) }
+// The one step that is pending, if there is just one.
+fn only_step<'a>(steps: &'a [Step<Expression>], pending: &[bool]) -> Option<&'a Step<Expression>>
+    ensures { IfSome result (λ step. taken (main_steps steps.now) pending.now ≡ main_of step.now ∷ []) }
 {
-    full.push(name.copy()?)?;
-    for child in node.children() {
-        name.push(*child.label())?;
-        add_all(child, name, full)?;
-        name.pop();
+    let mut only = None;
+    for (step, is_pending) in steps.iter().zip(pending.iter()) {
+        if *is_pending {
+            if only.is_some() {
+                return None;
+            }
+            only = Some(step);
+        }
     }
-    Ok(())
+    only
 }
 
-// Goes on with a step and the further ones at a node whose parent has the name `above`.
-#[cycle(walking)]
-fn visit<'a>(
-    alloc: Global,
-    node: &'a Tree,
-    step: &Step<Expression>,
-    rest: &[Step<Expression>],
-    above: &Name,
-    found: &mut Found<'a>,
-) -> Mem<()>
-    requires thin { is_thin (step.now ∷ rest.now) ≡ true }
-    ensures items { OnOk result (map selected_item found.new.selected.items ≡ map selected_item found.old.selected.items ++ items_led_to above.now node.now (thin_step step.now) (thin_of rest.now)) }
-    ensures full { OnOk result (found.new.full.items ≡ found.old.full.items ++ looked_at above.now node.now (thin_step step.now) (thin_of rest.now)) }
+// Whether a step is pending.
+fn some_pending(pending: &[bool]) -> bool
+    ensures { result ≡ list_any (λ is_pending. is_pending) pending.now }
 {
-    let tested = test(node, step);
-    if !tested.passes && !tested.looks {
-        return Ok(());
-    }
-    let mut name = above.child(*node.label())?;
-    if !tested.passes {
-        found.full.push(name)?;
-        return Ok(());
-    }
-    let Some((next, further)) = rest.split_first() else {
-        add_all(node, &mut name, &mut found.full)?;
-        found.selected.push(Selected { name, node })?;
-        return Ok(());
-    };
-    if tested.looks {
-        found.full.push(name.copy()?)?;
-    }
-    descend(alloc, node, next, further, &name, found)
+    pending.iter().any(|is_pending| *is_pending)
 }
 
-// Goes on with a step and the further ones at the children of a node. Where one label alone passes the
-// step or is looked at, no other child is visited.
-#[cycle(walking)]
-fn descend<'a>(
-    alloc: Global,
-    node: &'a Tree,
-    step: &Step<Expression>,
-    rest: &[Step<Expression>],
-    name: &Name,
-    found: &mut Found<'a>,
-) -> Mem<()>
-    requires thin { is_thin (step.now ∷ rest.now) ≡ true }
-    ensures items { OnOk result (map selected_item found.new.selected.items ≡ map selected_item found.old.selected.items ++ all_items_led_to name.now (nodes_of (children_of node.now)) (thin_step step.now) (thin_of rest.now)) }
-    ensures full { OnOk result (found.new.full.items ≡ found.old.full.items ++ all_looked_at name.now (nodes_of (children_of node.now)) (thin_step step.now) (thin_of rest.now)) }
+// The place at the end of edges from the document.
+fn place_of(alloc: Global, trail: &[Edge]) -> Mem<Place>
+    ensures name { IfOk result (λ place. place.name ≡ labels_in (place_at trail.now)) }
+    ensures path { IfOk result (λ place. place.path ≡ positions_in (place_at trail.now)) }
 {
-    let children = node.children();
-    if let Some(label) = only_label(step) {
-        return match node.child(&label) {
-            Some(child) => visit(alloc, child, step, rest, name, found),
-            None => Ok(()),
-        };
+    let mut name = Name::document(alloc);
+    let mut path = Sequence::new(alloc);
+    for edge in trail {
+        match edge {
+            Edge::Label(label) => name.push(*label)?,
+            Edge::Position(at) => {
+                let Ok(position) = u32::try_from(*at) else {
+                    return Err(Memory);
+                };
+                path.push(position)?;
+            }
+        }
     }
-    for child in children {
-        visit(alloc, child, step, rest, name, found)?;
+    Ok(Place { name, path })
+}
+
+// Looks where a step looks that begins at the place in hand.
+fn look_from<'a>(
+    evaluator: &mut Evaluator<'a>,
+    spot: Spot<'a>,
+    step: &'a Step<Expression>,
+    is_begin: bool,
+) -> Mem<()>
+    requires stands { Stands evaluator.old spot }
+    ensures back { OnOk result (IsBack evaluator.old evaluator.new) }
+    ensures looks { OnOk result (HasLooked evaluator.old evaluator.new (λ looks. is_begin && looks_from (document_of evaluator.old) looks step.now.separator (extent_of step.now.test) (place_in evaluator.old))) }
+{
+    if !is_begin {
+        return Ok(());
     }
-    Ok(())
+    evaluator.look_for(spot, step.separator, &step.test)
+}
+
+// Looks into what is selected, and into all below it.
+fn look_below<'a>(evaluator: &mut Evaluator<'a>, spot: Spot<'a>, is_selected: bool) -> Mem<()>
+    requires stands { Stands evaluator.old spot }
+    ensures back { OnOk result (IsBack evaluator.old evaluator.new) }
+    ensures looks { OnOk result (HasLooked evaluator.old evaluator.new (λ looks. is_selected && whole_looks (document_of evaluator.old) looks (place_in evaluator.old))) }
+{
+    if !is_selected {
+        return Ok(());
+    }
+    match spot {
+        Spot::Document => Ok(()),
+        Spot::Node(_) | Spot::Plain(_) => evaluator.look(spot, Separator::DoubleSlash),
+    }
+}
+
+// Whether a step goes to the place in hand, if it is pending.
+fn goes_to<'a>(
+    evaluator: &mut Evaluator<'a>,
+    spot: Spot<'a>,
+    step: &'a Step<Expression>,
+    is_pending: bool,
+) -> Mem<bool>
+    requires stands { Stands evaluator.old spot }
+    ensures back { OnOk result (IsBack evaluator.old evaluator.new) }
+    ensures looks { OnOk result (HasLooked evaluator.old evaluator.new (λ looks. is_pending && (passes (part_at_place (document_of evaluator.old) (place_in evaluator.old)) step.now.test && all_look (document_of evaluator.old) looks (all_conditions step.now.predicates) (place_in evaluator.old)))) }
+    ensures value { IfOk result (λ goes. goes ≡ (is_pending && fits (document_of evaluator.old) (main_of step.now) (place_in evaluator.old))) }
+{
+    if !is_pending || !spot.passes(&step.test) {
+        return Ok(false);
+    }
+    evaluator.all_hold(spot, step.predicates.as_slice())
+}
+
+impl<'a> Walker<'a> {
+    // Takes the pending steps to the place in hand, and tells which are pending for the places right below.
+    // The path is at the place already where this is its begin.
+    fn take(&mut self, spot: Spot<'a>, pending: &[bool], is_begin: bool) -> Mem<Vec<bool>>
+        requires stands { Stands self.old.evaluator spot }
+        ensures steps { OnOk result (self.new.steps ≡ self.old.steps) }
+        ensures back { OnOk result (IsBack self.old.evaluator self.new.evaluator) }
+        ensures further { IfOk result (λ more. more.items ≡ further (document_of self.old.evaluator) (place_in self.old.evaluator) is_begin (main_steps self.old.steps.now) pending.now) }
+        ensures found { OnOk result (Adds (document_of self.old.evaluator) self.old.selected.items self.new.selected.items (found_here (ends_here (document_of self.old.evaluator) (place_in self.old.evaluator) is_begin (main_steps self.old.steps.now) pending.now) (place_in self.old.evaluator))) }
+        ensures looks { OnOk result (HasLooked self.old.evaluator self.new.evaluator (λ looks. path_looks_at (document_of self.old.evaluator) looks (place_in self.old.evaluator) is_begin (main_steps self.old.steps.now) pending.now)) }
+    {
+        let mut further = Vec::with_capacity(self.evaluator.alloc, self.steps.len())?;
+        let mut is_here = is_begin;
+        let steps = self.steps;
+        for (step, is_pending) in steps.iter().zip(pending.iter()) {
+            look_from(&mut self.evaluator, spot, step, is_here)?;
+            further.push(is_here || *is_pending && step.separator == Separator::DoubleSlash)?;
+            is_here = goes_to(&mut self.evaluator, spot, step, *is_pending)?;
+        }
+        look_below(&mut self.evaluator, spot, is_here)?;
+        if is_here {
+            self.selected.push(Selected {
+                place: place_of(self.evaluator.alloc, &self.evaluator.trail)?,
+                spot,
+            })?;
+        }
+        Ok(further)
+    }
+
+    // Goes on with the pending steps at the places right below the one in hand.
+    #[cycle(walking)]
+    fn descend(&mut self, spot: Spot<'a>, pending: &[bool]) -> Mem<()>
+        requires stands { Stands self.old.evaluator spot }
+        ensures steps { OnOk result (self.new.steps ≡ self.old.steps) }
+        ensures back { OnOk result (IsBack self.old.evaluator self.new.evaluator) }
+        ensures found { OnOk result (Adds (document_of self.old.evaluator) self.old.selected.items self.new.selected.items (found_below (document_of self.old.evaluator) (main_steps self.old.steps.now) pending.now (place_in self.old.evaluator) (part_of spot.entry))) }
+        ensures looks { OnOk result (HasLooked self.old.evaluator self.new.evaluator (λ looks. looks_found_below (document_of self.old.evaluator) looks (main_steps self.old.steps.now) pending.now (place_in self.old.evaluator) (part_of spot.entry))) }
+    {
+        if !some_pending(pending) {
+            return Ok(());
+        }
+        if let Some(label) = self.only_child(pending) {
+            let edge = Edge::Label(label);
+            return match spot.child(self.evaluator.top, &edge) {
+                Some(below) => self.visit(edge, below, pending),
+                None => Ok(()),
+            };
+        }
+        let children = spot.children(self.evaluator.top);
+        for at in 0..children.len() {
+            let child = children.get(at);
+            self.visit(child.edge, child.spot, pending)?;
+        }
+        Ok(())
+    }
+
+    // Goes on with the pending steps at a place right below the one in hand.
+    #[cycle(walking)]
+    fn visit(&mut self, edge: Edge, spot: Spot<'a>, pending: &[bool]) -> Mem<()>
+        requires ordered { IsOrdered (document_of self.old.evaluator) }
+        requires there { part_at_place (document_of self.old.evaluator) (place_in self.old.evaluator ++ edge_of edge ∷ []) ≡ Some (part_of spot) }
+        ensures steps { OnOk result (self.new.steps ≡ self.old.steps) }
+        ensures back { OnOk result (IsBack self.old.evaluator self.new.evaluator) }
+        ensures found { OnOk result (Adds (document_of self.old.evaluator) self.old.selected.items self.new.selected.items (found_at (document_of self.old.evaluator) (main_steps self.old.steps.now) pending.now (place_in self.old.evaluator) (child (edge_of edge) (part_of spot.entry)))) }
+        ensures looks { OnOk result (HasLooked self.old.evaluator self.new.evaluator (λ looks. looks_found_at (document_of self.old.evaluator) looks (main_steps self.old.steps.now) pending.now (place_in self.old.evaluator) (child (edge_of edge) (part_of spot.entry)))) }
+    {
+        self.evaluator.enter(edge)?;
+        let further = self.take(spot, pending, false)?;
+        self.descend(spot, &further)?;
+        self.evaluator.leave();
+        Ok(())
+    }
+
+    // The label of the one node right below to which a step may be taken, where the pending steps tell it.
+    fn only_child(&self, pending: &[bool]) -> Option<Label>
+        ensures steps { IfSome result (λ label. IsOnlyChild (main_steps self.now.steps.now) pending.now label) }
+        ensures looks { IfSome result (λ label. AreOnlyLooks (main_steps self.now.steps.now) pending.now label) }
+    {
+        let step = only_step(self.steps, pending)?;
+        match step.separator {
+            Separator::Slash => only_label(step),
+            Separator::DoubleSlash => None,
+        }
+    }
 }
 
 // What a query selects and looks at, in one walk from the document on.
-pub fn walk<'a>(alloc: Global, tree: &'a Tree, query: &Query) -> Mem<Found<'a>>
-    ensures ordered { IsOrdered tree.now }
-    ensures places { IfOk result (λ found. map place_of_selected found.selected.items ≡ selected tree.now query.now) }
-    ensures items { IfOk result (λ found. map selected_item found.selected.items ≡ items_at tree.now (selected tree.now query.now)) }
+pub fn walk<'a>(alloc: Global, tree: &'a Tree, query: &'a Query) -> Mem<Found<'a>>
+    ensures ordered { OnOk result (IsOrdered tree.now) }
+    ensures places { IfOk result (λ found. places_selected found.selected.items ≡ selected tree.now query.now) }
+    ensures items { IfOk result (λ found. filter_map selected_item found.selected.items ≡ items_at tree.now (selected tree.now query.now)) }
     ensures full { IfOk result (λ found. found.full.items ≡ full_names tree.now query.now) }
 {
-    let mut found = Found {
+    let steps = query.steps();
+    let _ordered = tree.children();
+    let mut walker = Walker {
+        evaluator: Evaluator {
+            alloc,
+            top: tree,
+            trail: Vec::new(alloc),
+            marks: Marks::new(alloc),
+        },
+        steps,
         selected: Vec::new(alloc),
-        full: Vec::new(alloc),
     };
-    // What it ensures of the order of siblings is what the meaning rests on.
-    let _ = tree.children();
-    let Some((step, rest)) = query.steps().split_first() else {
-        unreachable!()
-    };
-    visit(alloc, tree, step, rest, &Name::document(alloc), &mut found)?;
-    Ok(found)
+    let mut none = Vec::with_capacity(alloc, steps.len())?;
+    for _ in steps {
+        none.push(false)?;
+    }
+    let pending = walker.take(Spot::Document, &none, true)?;
+    walker.descend(Spot::Document, &pending)?;
+    Ok(Found {
+        full: walker.evaluator.marks.names(alloc, tree)?,
+        selected: walker.selected,
+    })
 }

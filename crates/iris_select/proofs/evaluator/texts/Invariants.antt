@@ -1,0 +1,10 @@
+use Rattle.std.proofs.Common.{◌≡◌, map}
+use Rattle.std.specs.List.{filter_map}
+use Rattle.iris_xpath.specs.Meaning.{of_text}
+use Rattle.iris_select.specs.Numbers.{value_of}
+use Rattle.iris_select.specs.Evaluating.{ends_of}
+use Rattle.iris_select.proofs.evaluator.texts.Given as goal
+
+-- those so far
+abbrev pub invariant-loop-end : goal.invariant-loop-end
+invariant-loop-end l = map value_of l.values.items ≡ map of_text (filter_map (λ end. end) (ends_of l.yielded))
