@@ -75,5 +75,44 @@ pub const MAX_PLAIN: u64 = 64;
 /// How deep plain elements may be nested; one that has no kids is nested one deep.
 pub const MAX_PLAIN_DEPTH: u64 = 4;
 
+/// The greatest number of agents of a city.
+pub const MAX_AGENTS: usize = 64;
+
+/// The greatest capacity of an agent's cache: how many copies of nodes it may hold.
+pub const MAX_CAPACITY: u32 = 20_000;
+
+/// The greatest sum of the capacities of a city's agents.
+pub const MAX_CAPACITIES: u64 = 60_000;
+
+/// The capacity of each agent's cache, where the city line tells none.
+pub const DEFAULT_CAPACITY: u32 = 500;
+
+/// The greatest number of client queries that are open at once.
+pub const MAX_OPEN: u64 = 32;
+
+/// How many kept posts stop a call that may post.
+pub const MAX_POSTS: u64 = 200_000;
+
+/// How many bytes of kept posts stop a call that may post.
+pub const MAX_POST_BYTES: u64 = 536_870_912;
+
+/// How many entries of the book stop a call that may add one.
+pub const MAX_ENTRIES: u64 = 4_000_000;
+
+/// How many bytes of the book's entries stop a call that may add one.
+pub const MAX_ENTRY_BYTES: u64 = 536_870_912;
+
+/// The latest moment of an arrival, in milliseconds since 1970: the beginning of the year 2100.
+pub const MAX_ARRIVAL: u64 = 4_102_444_800_000;
+
+/// The longest stay, in minutes: a week.
+pub const MAX_STAY: u32 = 10_080;
+
+/// The greatest number of offers that a line asks for.
+pub const MAX_OFFERS: u32 = 100;
+
+/// The minutes of a day.
+pub const MINUTES_A_DAY: u32 = 1_440;
+
 /// How often a call that is interrupted is made in all.
 pub const MAX_TRIES: u32 = 1_000;

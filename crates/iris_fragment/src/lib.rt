@@ -9,8 +9,6 @@ mod laws;
 mod nodes;
 mod piece;
 mod status;
-#[cfg(test)]
-mod tests;
 
 pub use error::EvictError;
 pub use fragment::Fragment;

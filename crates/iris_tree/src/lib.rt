@@ -11,8 +11,6 @@ mod kinds;
 mod local;
 mod plain;
 mod plain_counts;
-#[cfg(test)]
-mod tests;
 mod tree;
 mod write;
 mod written;
@@ -21,12 +19,14 @@ pub use attrs::Attrs;
 pub use change::{Change, ChangeError};
 pub use count::changes_len;
 pub use iris_base::{
-    AgentForm, AgentId, Cite, DASH, DOT, Fault, Form, Id, IdForm, Kind, KindForm, Label, Letters,
-    MAX_AGENT_BYTES, MAX_ATTRIBUTES, MAX_CHANGES, MAX_CHILDREN, MAX_CITY_BYTES, MAX_DIGITS,
-    MAX_ID_BYTES, MAX_KIND_BYTES, MAX_KINDS, MAX_LABELS, MAX_LINE_BYTES, MAX_LINES,
-    MAX_LOCAL_BYTES, MAX_NESTING, MAX_NODES, MAX_NUMBER, MAX_OPERANDS, MAX_PARENTHESES,
-    MAX_PATH_PARTS, MAX_PLAIN, MAX_PLAIN_DEPTH, MAX_QUERY_BYTES, MAX_SCRIPT_BYTES, MAX_STEPS,
-    MAX_TAG_BYTES, MAX_TRIES, Mem, Memory, Name, NameError, Sequence, Short, Spelled, Tag, TagForm,
+    AgentForm, AgentId, Cite, DASH, DEFAULT_CAPACITY, DOT, Fault, Form, Id, IdForm, Kind, KindForm,
+    Label, Letters, MAX_AGENT_BYTES, MAX_AGENTS, MAX_ARRIVAL, MAX_ATTRIBUTES, MAX_CAPACITIES,
+    MAX_CAPACITY, MAX_CHANGES, MAX_CHILDREN, MAX_CITY_BYTES, MAX_DIGITS, MAX_ENTRIES,
+    MAX_ENTRY_BYTES, MAX_ID_BYTES, MAX_KIND_BYTES, MAX_KINDS, MAX_LABELS, MAX_LINE_BYTES,
+    MAX_LINES, MAX_LOCAL_BYTES, MAX_NESTING, MAX_NODES, MAX_NUMBER, MAX_OFFERS, MAX_OPEN,
+    MAX_OPERANDS, MAX_PARENTHESES, MAX_PATH_PARTS, MAX_PLAIN, MAX_PLAIN_DEPTH, MAX_POST_BYTES,
+    MAX_POSTS, MAX_QUERY_BYTES, MAX_SCRIPT_BYTES, MAX_STAY, MAX_STEPS, MAX_TAG_BYTES, MAX_TRIES,
+    MINUTES_A_DAY, Mem, Memory, Name, NameError, Sequence, Short, Spelled, State, Tag, TagForm,
     Text, TextError, UNDERSCORE, count_fault, is_id, name_text, read_name,
 };
 pub use item::{Element, Item};
