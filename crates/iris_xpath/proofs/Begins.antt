@@ -70,7 +70,7 @@ pub record BlankIs (b : ℕ) : Type 0 where
 pub blank_is : (b : ℕ) → is_blank b ≡ true → BlankIs b
 blank_is b h = record { word_ = grind (arith, nat_tests); slash_ = grind (arith, nat_tests); dot_ = grind (arith, nat_tests); same = grind (arith, nat_tests); digit = grind (arith, nat_tests) }
 
-quote_is : (q : ℕ) → is_quote q ≡ true → (q ≡ 39) ⊎ (q ≡ 34)
+pub quote_is : (q : ℕ) → is_quote q ≡ true → (q ≡ 39) ⊎ (q ≡ 34)
 quote_is q h = grind (arith, nat_tests)
 
 -- ---- rows of bytes

@@ -329,7 +329,8 @@ abbrev number_in : ℕ → Option (Configuration × ℕ) → ℕ
 number_in d None = d
 number_in d (Some p) = p.1
 
-pair_state : (s t : Configuration) (d e : ℕ) → ◌≡◌ {A = Option (Configuration × ℕ)} (Some (s, d)) (Some (t, e)) → (s ≡ t) × (d ≡ e)
+-- what a trace tells, part by part
+pub pair_state : (s t : Configuration) (d e : ℕ) → ◌≡◌ {A = Option (Configuration × ℕ)} (Some (s, d)) (Some (t, e)) → (s ≡ t) × (d ≡ e)
 pair_state s t d e h = (ap (state_in s) h, ap (number_in d) h)
 
 some_pair : (t : Configuration) (e : ℕ) → ◌≡◌ {A = Option (Configuration × ℕ)} (Some (t, e)) None → ⊥
@@ -355,7 +356,8 @@ inside_trace : (n : List ℕ → NameTest) (q : ℕ) (v w : List ℕ) (side : Si
 inside_trace n q [] w side fs d h = rw (same_byte q, max_same d (parens_in fs), append-nil w) refl
 inside_trace n q (b ∷ v) w side fs d h = rw (free_head q b v h, max_same d (parens_in fs)) (inside_trace n q v (w ++ b ∷ []) side fs d (free_tail q b v h) ∙ ap (λ (x : List ℕ). Some (at (states.AfterOperand (operands.Literal x) side) fs, max d (parens_in fs))) (append_assoc w (b ∷ []) v))
 
-literal_traced : (n : List ℕ → NameTest) (q : ℕ) (v : List ℕ) (side : Side) (fs : List Frame) (d : ℕ) → IsFree q v → trace n (at (states.InLiteral q side) fs) d (v ++ q ∷ []) ≡ Some (at (states.AfterOperand (operands.Literal v) side) fs, max d (parens_in fs))
+-- a whole literal, and how deep parentheses are nested there
+pub literal_traced : (n : List ℕ → NameTest) (q : ℕ) (v : List ℕ) (side : Side) (fs : List Frame) (d : ℕ) → IsFree q v → trace n (at (states.InLiteral q side) fs) d (v ++ q ∷ []) ≡ Some (at (states.AfterOperand (operands.Literal v) side) fs, max d (parens_in fs))
 literal_traced n q [] side fs d h = rw (same_byte q) refl
 literal_traced n q (b ∷ v) side fs d h = rw (free_head q b v h) (inside_trace n q v (b ∷ []) side fs d (free_tail q b v h))
 

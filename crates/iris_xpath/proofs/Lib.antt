@@ -3,8 +3,10 @@ mod Anchors
 mod Begins
 pub mod Below
 mod Deeper
+mod DigitValues
 mod Digits
 mod Endings
+mod EqualityRuns
 mod Exact
 mod High
 mod Judging
@@ -17,6 +19,7 @@ mod Pads
 pub mod Passes
 pub mod PlaceOrder
 mod Runs
+pub mod Said
 pub mod SelectedPlaces
 mod Stacks
 mod Tallies
@@ -24,7 +27,9 @@ pub mod ThinQuery
 mod Traces
 pub mod UnderAnchors
 pub mod Walk
+pub mod Weights
 mod Wholes
+mod WordRuns
 mod Words
 mod Writing
 mod Written

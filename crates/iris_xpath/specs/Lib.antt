@@ -13,6 +13,7 @@ pub mod Places
 pub mod Printed
 pub mod Reading
 pub mod Refused
+pub mod Said
 pub mod Same
 pub mod Spells
 pub mod Syntax
@@ -22,4 +23,5 @@ pub mod ThinMeaning
 pub mod ThinQuery
 pub mod Told
 pub mod Trees
+pub mod Values
 pub mod Walk

@@ -8,6 +8,7 @@ mod bytes;
 mod copying;
 mod error;
 mod expression;
+mod number;
 mod operands;
 mod outside;
 mod parser;
@@ -17,11 +18,10 @@ mod stack;
 mod state;
 mod steps;
 mod tally;
-#[cfg(test)]
-mod tests;
 mod thin;
 mod turn;
 mod units;
+mod value;
 mod word;
 
 pub use anchor::{lca, lca_name};
@@ -34,3 +34,4 @@ pub use parser::parse;
 pub use printing::print;
 pub use query::Query;
 pub use tally::depth;
+pub use value::{Value, some_compare};

@@ -13,10 +13,12 @@ use crate::steps::begin_part;
 use crate::units::end_unit;
 use crate::word::Word;
 use iris_tree::{MAX_DIGITS, Mem, Sequence};
+use sqlite_items::Boxed;
 use std::alloc::Global;
 
 // An operand is a literal, a number or a path.
-pub fn begin_operand(alloc: Global, side: Side, byte: u8) -> Mem<Option<State>>
+#[inline(always)]
+pub fn begin_operand(alloc: Global, side: Boxed<Side>, byte: u8) -> Mem<Option<State>>
     requires { byte < 128 }
     ensures { IfOk result (λ next. next ≡ machine.begin_operand side byte) }
 {
@@ -37,7 +39,8 @@ pub fn begin_operand(alloc: Global, side: Side, byte: u8) -> Mem<Option<State>>
     begin_part(alloc, Separator::Slash, Sequence::new(alloc), side, byte)
 }
 
-pub fn after_minus(alloc: Global, side: Side, byte: u8) -> Mem<Option<State>>
+#[inline(always)]
+pub fn after_minus(alloc: Global, side: Boxed<Side>, byte: u8) -> Mem<Option<State>>
     requires { byte < 128 }
     ensures { IfOk result (λ next. next ≡ machine.after_minus side byte) }
 {
@@ -83,6 +86,7 @@ fn value_of(digits: &[u8]) -> u64
     value
 }
 
+#[inline(always)]
 fn digit_of(byte: u8) -> u64
     ensures value { result ≡ trees.digit_of byte }
     ensures small { result ≤ 9 }
@@ -94,30 +98,35 @@ fn digit_of(byte: u8) -> u64
     }
 }
 
+#[inline(always)]
 pub fn after_operand(
+    alloc: Global,
     stack: &mut Stack,
     operand: Operand<Expression>,
-    side: Side,
+    side: Boxed<Side>,
     byte: u8,
 ) -> Mem<Option<State>>
     ensures { IfOk result (λ next. Turned (machine.after_operand operand side stack.old byte) next stack.new) }
 {
     if is_blank(byte) {
+        let operand = Boxed::new(alloc, operand)?;
         return Ok(Some(State::AfterOperand { operand, side }));
     }
-    end_operand(stack, operand, side, byte)
+    end_operand(alloc, stack, operand, side, byte)
 }
 
 // What follows an operand is the sign of a comparison, or what follows a unit.
+#[inline(always)]
 pub fn end_operand(
+    alloc: Global,
     stack: &mut Stack,
     operand: Operand<Expression>,
-    side: Side,
+    side: Boxed<Side>,
     byte: u8,
 ) -> Mem<Option<State>>
     ensures { IfOk result (λ next. Turned (machine.end_operand operand side stack.old byte) next stack.new) }
 {
-    let Side { compared, level } = side;
+    let Side { compared, level } = side.into_inner();
     match compared {
         Some(Compared { left, comparison }) => {
             let unit = Expression::Compare {
@@ -125,88 +134,112 @@ pub fn end_operand(
                 comparison,
                 right: operand,
             };
-            end_unit(stack, unit, level, byte)
+            end_unit(alloc, stack, unit, level, byte)
         }
-        None => end_left(stack, operand, level, byte),
+        None => end_left(alloc, stack, operand, level, byte),
     }
 }
 
+#[inline(always)]
 fn end_left(
+    alloc: Global,
     stack: &mut Stack,
     operand: Operand<Expression>,
-    level: Level,
+    level: Boxed<Level>,
     byte: u8,
 ) -> Mem<Option<State>>
     ensures { IfOk result (λ next. Turned (machine.end_left operand level stack.old byte) next stack.new) }
 {
     if byte == b'!' {
-        return Ok(Some(State::Bang {
-            left: operand,
-            level,
-        }));
+        let left = Boxed::new(alloc, operand)?;
+        return Ok(Some(State::Bang { left, level }));
     }
     if byte == b'=' {
-        return Ok(Some(right_of(operand, Comparison::Equal, level)));
+        return Ok(Some(right_of(alloc, operand, Comparison::Equal, level)?));
     }
     if byte == b'<' {
-        return Ok(Some(sign_of(operand, Comparison::Less, level)));
+        return Ok(Some(sign_of(alloc, operand, Comparison::Less, level)?));
     }
     if byte == b'>' {
-        return Ok(Some(sign_of(operand, Comparison::Greater, level)));
+        return Ok(Some(sign_of(alloc, operand, Comparison::Greater, level)?));
     }
     match operand {
-        Operand::Path(path) => end_unit(stack, Expression::Path(path), level, byte),
+        Operand::Path(path) => end_unit(alloc, stack, Expression::Path(path), level, byte),
         Operand::Literal(_) | Operand::Number(_) => Ok(None),
     }
 }
 
 // ---- comparisons
 
-fn right_of(left: Operand<Expression>, comparison: Comparison, level: Level) -> State
-    ensures { result ≡ machine.right_of left comparison level }
+#[inline(always)]
+fn right_of(
+    alloc: Global,
+    left: Operand<Expression>,
+    comparison: Comparison,
+    level: Boxed<Level>,
+) -> Mem<State>
+    ensures { IfOk result (λ state. state ≡ machine.right_of left comparison level) }
 {
-    State::Right {
-        side: Side {
-            compared: Some(Compared { left, comparison }),
-            level,
-        },
-    }
-}
-
-fn sign_of(left: Operand<Expression>, comparison: Comparison, level: Level) -> State
-    ensures { result ≡ machine.sign_of left comparison level }
-{
-    State::Sign {
-        compared: Compared { left, comparison },
+    let side = Side {
+        compared: Some(Compared { left, comparison }),
         level,
-    }
+    };
+    Ok(State::Right {
+        side: Boxed::new(alloc, side)?,
+    })
 }
 
-pub fn after_bang(left: Operand<Expression>, level: Level, byte: u8) -> Option<State>
-    ensures { result ≡ machine.after_bang left level byte }
+#[inline(always)]
+fn sign_of(
+    alloc: Global,
+    left: Operand<Expression>,
+    comparison: Comparison,
+    level: Boxed<Level>,
+) -> Mem<State>
+    ensures { IfOk result (λ state. state ≡ machine.sign_of left comparison level) }
+{
+    let compared = Boxed::new(alloc, Compared { left, comparison })?;
+    Ok(State::Sign { compared, level })
+}
+
+#[inline(always)]
+pub fn after_bang(
+    alloc: Global,
+    left: Operand<Expression>,
+    level: Boxed<Level>,
+    byte: u8,
+) -> Mem<Option<State>>
+    ensures { IfOk result (λ next. next ≡ machine.after_bang left level byte) }
 {
     if byte != b'=' {
-        return None;
+        return Ok(None);
     }
-    Some(right_of(left, Comparison::NotEqual, level))
+    Ok(Some(right_of(alloc, left, Comparison::NotEqual, level)?))
 }
 
-pub fn after_sign(alloc: Global, compared: Compared, level: Level, byte: u8) -> Mem<Option<State>>
+#[inline(always)]
+pub fn after_sign(
+    alloc: Global,
+    compared: Compared,
+    level: Boxed<Level>,
+    byte: u8,
+) -> Mem<Option<State>>
     requires { byte < 128 }
     ensures { IfOk result (λ next. next ≡ machine.after_sign compared level byte) }
 {
     let Compared { left, comparison } = compared;
     if byte == b'=' {
-        return Ok(Some(right_of(left, or_equal(comparison), level)));
+        return Ok(Some(right_of(alloc, left, or_equal(comparison), level)?));
     }
     let side = Side {
         compared: Some(Compared { left, comparison }),
         level,
     };
-    right(alloc, side, byte)
+    right(alloc, Boxed::new(alloc, side)?, byte)
 }
 
 // The sign with `=` behind it.
+#[inline(always)]
 fn or_equal(comparison: Comparison) -> Comparison
     ensures { result ≡ trees.or_equal comparison }
 {
@@ -217,7 +250,8 @@ fn or_equal(comparison: Comparison) -> Comparison
     }
 }
 
-pub fn right(alloc: Global, side: Side, byte: u8) -> Mem<Option<State>>
+#[inline(always)]
+pub fn right(alloc: Global, side: Boxed<Side>, byte: u8) -> Mem<Option<State>>
     requires { byte < 128 }
     ensures { IfOk result (λ next. next ≡ machine.begin_right side byte) }
 {

@@ -63,20 +63,20 @@ impl Last {
                 },
             },
             State::InWord { spot, .. } => after_step(true, spot),
-            State::AfterStep { step, spot } => after_step(is_word(step), spot),
+            State::AfterStep { step, spot } => after_step(is_word(step.get()), spot),
             State::Unit { .. } => Last::UnitBegins,
             State::Dot { side, .. } | State::AfterDots { side, .. } => {
-                after_operand(Ending::Other, side)
+                after_operand(Ending::Other, side.get())
             }
             State::AtSign { .. } => Last::AtSign,
-            State::InAttribute { side, .. } => after_operand(Ending::Attribute, side),
-            State::AfterOperand { operand, side } => match operand {
-                Operand::Path(_) => after_operand(Ending::Attribute, side),
-                Operand::Literal(_) => after_operand(Ending::Literal, side),
-                Operand::Number(_) => after_operand(Ending::Number, side),
+            State::InAttribute { side, .. } => after_operand(Ending::Attribute, side.get()),
+            State::AfterOperand { operand, side } => match operand.get() {
+                Operand::Path(_) => after_operand(Ending::Attribute, side.get()),
+                Operand::Literal(_) => after_operand(Ending::Literal, side.get()),
+                Operand::Number(_) => after_operand(Ending::Number, side.get()),
             },
             State::Minus { .. } => Last::Minus,
-            State::InDigits { side, .. } => after_operand(Ending::Digit, side),
+            State::InDigits { side, .. } => after_operand(Ending::Digit, side.get()),
             State::Sign { .. } | State::Right { .. } => Last::RightBegins,
             State::AfterGroup { .. } => Last::Group,
             State::Link { link, .. } => match link {
@@ -105,7 +105,10 @@ fn after_step(is_word: bool, spot: &Spot) -> Last
     match spot {
         Spot::Main { .. } => Last::MainStep { is_word },
         Spot::Part { side, .. } => {
-            after_operand(if is_word { Ending::Word } else { Ending::Other }, side)
+            after_operand(
+                if is_word { Ending::Word } else { Ending::Other },
+                side.get(),
+            )
         }
     }
 }
@@ -162,12 +165,7 @@ fn what_begins(last: Last, byte: u8) -> Option<OutsidePart>
     ensures { result ≡ outside.what_begins last byte }
 {
     match last {
-        Last::UnitBegins => if byte == b'/' {
-            Some(OutsidePart::Absolute)
-        } else {
-            None
-        },
-        Last::RightBegins => if byte == b'/' {
+        Last::UnitBegins | Last::RightBegins => if byte == b'/' {
             Some(OutsidePart::Absolute)
         } else {
             None

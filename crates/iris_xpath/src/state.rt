@@ -1,8 +1,9 @@
-//! The states of the reader.
+//! The states of the reader. What is large stands in a box, so that little is moved at each byte.
 
 use crate::expression::{Comparison, Expression, Operand, Part, Separator, Step};
 use crate::word::Word;
 use iris_tree::Sequence;
+use sqlite_items::Boxed;
 
 /// What stands before a unit inside its bracket or parenthesis: the finished parts of the `or`, and the
 /// finished parts of the `and` that is being read.
@@ -23,7 +24,7 @@ pub struct Compared {
 #[derive(Drop)]
 pub struct Side {
     pub compared: Option<Compared>,
-    pub level: Level,
+    pub level: Boxed<Level>,
 }
 
 /// Where a step stands: after steps of the main path, or after parts of a path in a predicate.
@@ -34,7 +35,7 @@ pub enum Spot {
     },
     Part {
         parts: Sequence<Part<Expression>>,
-        side: Side,
+        side: Boxed<Side>,
     },
 }
 
@@ -42,9 +43,15 @@ pub enum Spot {
 #[derive(Drop)]
 pub enum Frame {
     /// `[`, after a step.
-    Bracket { step: Step<Expression>, spot: Spot },
+    Bracket {
+        step: Boxed<Step<Expression>>,
+        spot: Spot,
+    },
     /// `(`, or `not(`.
-    Paren { negated: bool, level: Level },
+    Paren {
+        negated: bool,
+        level: Boxed<Level>,
+    },
 }
 
 /// How much of `and` or of `or` was read.
@@ -79,79 +86,79 @@ pub enum State {
     },
     /// A step, which predicates may follow.
     AfterStep {
-        step: Step<Expression>,
+        step: Boxed<Step<Expression>>,
         spot: Spot,
     },
     /// A bracket, a parenthesis, `and` or `or`: a unit begins.
     Unit {
-        level: Level,
+        level: Boxed<Level>,
     },
     /// A `.`, which a second may follow.
     Dot {
         parts: Sequence<Part<Expression>>,
-        side: Side,
+        side: Boxed<Side>,
     },
     /// `.` or `..`, the last of the parts.
     AfterDots {
         parts: Sequence<Part<Expression>>,
-        side: Side,
+        side: Boxed<Side>,
     },
     /// `@`.
     AtSign {
         separator: Separator,
         parts: Sequence<Part<Expression>>,
-        side: Side,
+        side: Boxed<Side>,
     },
     /// Bytes of a word, the name of an attribute.
     InAttribute {
         separator: Separator,
         word: Word,
         parts: Sequence<Part<Expression>>,
-        side: Side,
+        side: Boxed<Side>,
     },
     /// An operand.
     AfterOperand {
-        operand: Operand<Expression>,
-        side: Side,
+        operand: Boxed<Operand<Expression>>,
+        side: Boxed<Side>,
     },
     /// The quote that begins a literal.
     InLiteral {
         quote: u8,
-        side: Side,
+        side: Boxed<Side>,
     },
     /// `-`.
     Minus {
-        side: Side,
+        side: Boxed<Side>,
     },
     /// Digits of a number.
     InDigits {
         negative: bool,
         digits: Word,
-        side: Side,
+        side: Boxed<Side>,
     },
     /// An operand and `!`.
     Bang {
-        left: Operand<Expression>,
-        level: Level,
+        left: Boxed<Operand<Expression>>,
+        level: Boxed<Level>,
     },
     /// An operand and `<` or `>`, which `=` may follow.
     Sign {
-        compared: Compared,
-        level: Level,
+        compared: Boxed<Compared>,
+        level: Boxed<Level>,
     },
     /// An operand and a sign: the right side begins.
     Right {
-        side: Side,
+        side: Boxed<Side>,
     },
     /// A unit in parentheses.
     AfterGroup {
-        unit: Expression,
-        level: Level,
+        unit: Boxed<Expression>,
+        level: Boxed<Level>,
     },
     /// A unit, and the letters of a link.
     Link {
         link: Link,
-        unit: Expression,
-        level: Level,
+        unit: Boxed<Expression>,
+        level: Boxed<Level>,
     },
 }

@@ -12,8 +12,10 @@ use crate::state::{Frame, Side, Spot, State};
 use crate::units::no_units;
 use crate::word::Word;
 use iris_tree::{Kind, Mem, Sequence};
+use sqlite_items::Boxed;
 use std::alloc::Global;
 
+#[inline(always)]
 pub fn begin_text(alloc: Global, byte: u8) -> Mem<Option<State>>
     ensures { IfOk result (λ next. next ≡ machine.begin_text byte) }
 {
@@ -30,6 +32,7 @@ pub fn begin_text(alloc: Global, byte: u8) -> Mem<Option<State>>
     }))
 }
 
+#[inline(always)]
 pub fn after_slash(alloc: Global, spot: Spot, byte: u8) -> Mem<Option<State>>
     requires { byte < 128 }
     ensures { IfOk result (λ next. next ≡ machine.after_slash spot byte) }
@@ -43,6 +46,7 @@ pub fn after_slash(alloc: Global, spot: Spot, byte: u8) -> Mem<Option<State>>
     after_separator(alloc, Separator::Slash, spot, byte)
 }
 
+#[inline(always)]
 pub fn after_separator(
     alloc: Global,
     separator: Separator,
@@ -62,6 +66,7 @@ pub fn after_separator(
 }
 
 // A step begins with a word or `*`.
+#[inline(always)]
 fn begin_step(alloc: Global, separator: Separator, spot: Spot, byte: u8) -> Mem<Option<State>>
     requires { byte < 128 }
     ensures { IfOk result (λ next. next ≡ machine.begin_step separator spot byte) }
@@ -77,18 +82,17 @@ fn begin_step(alloc: Global, separator: Separator, spot: Spot, byte: u8) -> Mem<
     if byte != b'*' {
         return Ok(None);
     }
-    Ok(Some(State::AfterStep {
-        step: step_of(alloc, separator, NameTest::Any),
-        spot,
-    }))
+    let step = Boxed::new(alloc, step_of(alloc, separator, NameTest::Any))?;
+    Ok(Some(State::AfterStep { step, spot }))
 }
 
 // A part begins as a step does, or with `.` or `@`.
+#[inline(always)]
 pub fn begin_part(
     alloc: Global,
     separator: Separator,
     parts: Sequence<Part<Expression>>,
-    side: Side,
+    side: Boxed<Side>,
     byte: u8,
 ) -> Mem<Option<State>>
     requires { byte < 128 }
@@ -110,6 +114,7 @@ pub fn begin_part(
     begin_step(alloc, separator, Spot::Part { parts, side }, byte)
 }
 
+#[inline(always)]
 pub fn step_of(alloc: Global, separator: Separator, test: NameTest) -> Step<Expression>
     ensures { result ≡ trees.step_of separator test }
 {
@@ -132,6 +137,7 @@ pub fn test_of(kinds: &[Kind], word: Word) -> NameTest
     NameTest::Tag(word.into_text())
 }
 
+#[inline(always)]
 pub fn after_step(
     alloc: Global,
     stack: &mut Stack,
@@ -142,12 +148,14 @@ pub fn after_step(
     ensures { IfOk result (λ next. Turned (machine.after_step step spot stack.old byte) next stack.new) }
 {
     if is_blank(byte) {
+        let step = Boxed::new(alloc, step)?;
         return Ok(Some(State::AfterStep { step, spot }));
     }
     if byte == b'[' {
+        let step = Boxed::new(alloc, step)?;
         stack.push(Frame::Bracket { step, spot })?;
         return Ok(Some(State::Unit {
-            level: no_units(alloc),
+            level: no_units(alloc)?,
         }));
     }
     match spot {
@@ -166,7 +174,7 @@ pub fn after_step(
             }
             let mut parts = parts;
             parts.push(Part::Step(step))?;
-            after_path(stack, parts, side, byte)
+            after_path(alloc, stack, parts, side, byte)
         }
     }
 }
@@ -177,14 +185,14 @@ fn open_not(
     stack: &mut Stack,
     step: Step<Expression>,
     parts: Sequence<Part<Expression>>,
-    side: Side,
+    side: Boxed<Side>,
 ) -> Mem<Option<State>>
     ensures { IfOk result (λ next. Turned (machine.open_not step parts side stack.old) next stack.new) }
 {
     if !is_not(&step) || !parts.is_empty() {
         return Ok(None);
     }
-    let Side { compared, level } = side;
+    let Side { compared, level } = side.into_inner();
     if compared.is_some() {
         return Ok(None);
     }
@@ -193,7 +201,7 @@ fn open_not(
         level,
     })?;
     Ok(Some(State::Unit {
-        level: no_units(alloc),
+        level: no_units(alloc)?,
     }))
 }
 
@@ -211,10 +219,12 @@ fn is_not(step: &Step<Expression>) -> bool
 
 // ---- paths in predicates
 
+#[inline(always)]
 fn after_path(
+    alloc: Global,
     stack: &mut Stack,
     parts: Sequence<Part<Expression>>,
-    side: Side,
+    side: Boxed<Side>,
     byte: u8,
 ) -> Mem<Option<State>>
     ensures { IfOk result (λ next. Turned (machine.after_path parts side stack.old byte) next stack.new) }
@@ -228,13 +238,15 @@ fn after_path(
         parts,
         attribute: None,
     };
-    end_operand(stack, Operand::Path(path), side, byte)
+    end_operand(alloc, stack, Operand::Path(path), side, byte)
 }
 
+#[inline(always)]
 pub fn after_dot(
+    alloc: Global,
     stack: &mut Stack,
     parts: Sequence<Part<Expression>>,
-    side: Side,
+    side: Boxed<Side>,
     byte: u8,
 ) -> Mem<Option<State>>
     ensures { IfOk result (λ next. Turned (machine.after_dot parts side stack.old byte) next stack.new) }
@@ -245,13 +257,15 @@ pub fn after_dot(
         return Ok(Some(State::AfterDots { parts, side }));
     }
     parts.push(Part::Itself)?;
-    after_dots(stack, parts, side, byte)
+    after_dots(alloc, stack, parts, side, byte)
 }
 
+#[inline(always)]
 pub fn after_dots(
+    alloc: Global,
     stack: &mut Stack,
     parts: Sequence<Part<Expression>>,
-    side: Side,
+    side: Boxed<Side>,
     byte: u8,
 ) -> Mem<Option<State>>
     ensures { IfOk result (λ next. Turned (machine.after_dots parts side stack.old byte) next stack.new) }
@@ -259,14 +273,15 @@ pub fn after_dots(
     if is_blank(byte) {
         return Ok(Some(State::AfterDots { parts, side }));
     }
-    after_path(stack, parts, side, byte)
+    after_path(alloc, stack, parts, side, byte)
 }
 
+#[inline(always)]
 pub fn after_at(
     alloc: Global,
     separator: Separator,
     parts: Sequence<Part<Expression>>,
-    side: Side,
+    side: Boxed<Side>,
     byte: u8,
 ) -> Mem<Option<State>>
     requires { byte < 128 }
@@ -291,6 +306,7 @@ pub fn after_at(
     }))
 }
 
+#[inline(always)]
 pub fn attribute_of(
     separator: Separator,
     word: Word,

@@ -100,8 +100,7 @@ fn tally_of(expression: &Expression) -> Tally
     ensures { result ≡ tally.capped (tally.tally_of expression.now) }
 {
     match expression {
-        Expression::Or(parts) => tally_all(parts),
-        Expression::And(parts) => tally_all(parts),
+        Expression::Or(parts) | Expression::And(parts) => tally_all(parts),
         Expression::Not(inner) => tally_of(inner.get()),
         Expression::Path(path) => tally_path(path),
         Expression::Compare { left, right, .. } => {
@@ -163,8 +162,7 @@ fn tally_part(part: &Part<Expression>) -> Tally
     ensures { result ≡ tally.capped (tally.tally_part part.now) }
 {
     match part {
-        Part::Itself => nothing(),
-        Part::Parent => nothing(),
+        Part::Itself | Part::Parent => nothing(),
         Part::Step(step) => tally_all(&step.predicates),
     }
 }
@@ -226,8 +224,7 @@ fn is_wide(test: &NameTest) -> bool
     ensures { result ≡ tally.is_wide test.now }
 {
     match test {
-        NameTest::Any => true,
-        NameTest::Kind(_) => true,
+        NameTest::Any | NameTest::Kind(_) => true,
         NameTest::Tag(_) => false,
     }
 }

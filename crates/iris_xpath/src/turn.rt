@@ -16,10 +16,12 @@ use crate::steps::{
 use crate::units::{after_group, after_link, unit};
 use crate::word::Word;
 use iris_tree::{Kind, Mem, Sequence};
+use sqlite_items::Boxed;
 use std::alloc::Global;
 
 /// What a byte does at a state, below what is open: the next state, or nothing where no query goes on
 /// with it. A literal is not read byte by byte.
+#[inline(always)]
 pub fn turn(
     alloc: Global,
     kinds: &[Kind],
@@ -51,10 +53,10 @@ pub fn turn(
             let step = step_of(alloc, separator, test_of(kinds, word));
             after_step(alloc, stack, step, spot, byte)
         }
-        State::AfterStep { step, spot } => after_step(alloc, stack, step, spot, byte),
+        State::AfterStep { step, spot } => after_step(alloc, stack, step.into_inner(), spot, byte),
         State::Unit { level } => unit(alloc, stack, level, byte),
-        State::Dot { parts, side } => after_dot(stack, parts, side, byte),
-        State::AfterDots { parts, side } => after_dots(stack, parts, side, byte),
+        State::Dot { parts, side } => after_dot(alloc, stack, parts, side, byte),
+        State::AfterDots { parts, side } => after_dots(alloc, stack, parts, side, byte),
         State::AtSign {
             separator,
             parts,
@@ -65,30 +67,44 @@ pub fn turn(
             word,
             parts,
             side,
-        } => in_attribute(stack, separator, word, parts, side, byte),
-        State::AfterOperand { operand, side } => after_operand(stack, operand, side, byte),
+        } => in_attribute(alloc, stack, separator, word, parts, side, byte),
+        State::AfterOperand { operand, side } => after_operand(
+            alloc,
+            stack,
+            operand.into_inner(),
+            side,
+            byte,
+        ),
         State::InLiteral { .. } => unreachable!(),
         State::Minus { side } => after_minus(alloc, side, byte),
         State::InDigits {
             negative,
             digits,
             side,
-        } => in_digits(stack, negative, digits, side, byte),
-        State::Bang { left, level } => Ok(after_bang(left, level, byte)),
-        State::Sign { compared, level } => after_sign(alloc, compared, level, byte),
+        } => in_digits(alloc, stack, negative, digits, side, byte),
+        State::Bang { left, level } => after_bang(alloc, left.into_inner(), level, byte),
+        State::Sign { compared, level } => after_sign(alloc, compared.into_inner(), level, byte),
         State::Right { side } => right(alloc, side, byte),
-        State::AfterGroup { unit, level } => after_group(stack, unit, level, byte),
+        State::AfterGroup { unit, level } => after_group(
+            alloc,
+            stack,
+            unit.into_inner(),
+            level,
+            byte,
+        ),
         State::Link { link, unit, level } => after_link(alloc, stack, link, unit, level, byte),
     }
 }
 
 // After bytes of an attribute's name.
+#[inline(always)]
 fn in_attribute(
+    alloc: Global,
     stack: &mut Stack,
     separator: Separator,
     word: Word,
     parts: Sequence<Part<Expression>>,
-    side: Side,
+    side: Boxed<Side>,
     byte: u8,
 ) -> Mem<Option<State>>
     requires { byte < 128 }
@@ -103,15 +119,23 @@ fn in_attribute(
             side,
         }));
     }
-    after_operand(stack, attribute_of(separator, word, parts), side, byte)
+    after_operand(
+        alloc,
+        stack,
+        attribute_of(separator, word, parts),
+        side,
+        byte,
+    )
 }
 
 // After digits of a number.
+#[inline(always)]
 fn in_digits(
+    alloc: Global,
     stack: &mut Stack,
     negative: bool,
     digits: Word,
-    side: Side,
+    side: Boxed<Side>,
     byte: u8,
 ) -> Mem<Option<State>>
     requires { byte < 128 }
@@ -126,5 +150,5 @@ fn in_digits(
         }));
     }
     let operand = Operand::Number(number_of(negative, &digits));
-    after_operand(stack, operand, side, byte)
+    after_operand(alloc, stack, operand, side, byte)
 }

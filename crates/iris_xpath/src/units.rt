@@ -13,16 +13,19 @@ use iris_tree::{Mem, Sequence};
 use sqlite_items::Boxed;
 use std::alloc::Global;
 
-pub fn no_units(alloc: Global) -> Level
-    ensures { result ≡ machine.no_units }
+#[inline(always)]
+pub fn no_units(alloc: Global) -> Mem<Boxed<Level>>
+    ensures { IfOk result (λ level. level ≡ machine.no_units) }
 {
-    Level {
+    let level = Level {
         ors: Sequence::new(alloc),
         ands: Sequence::new(alloc),
-    }
+    };
+    Ok(Boxed::new(alloc, level)?)
 }
 
-pub fn unit(alloc: Global, stack: &mut Stack, level: Level, byte: u8) -> Mem<Option<State>>
+#[inline(always)]
+pub fn unit(alloc: Global, stack: &mut Stack, level: Boxed<Level>, byte: u8) -> Mem<Option<State>>
     requires { byte < 128 }
     ensures { IfOk result (λ next. Turned (machine.unit level stack.old byte) next stack.new) }
 {
@@ -32,7 +35,8 @@ pub fn unit(alloc: Global, stack: &mut Stack, level: Level, byte: u8) -> Mem<Opt
     begin_unit(alloc, stack, level, byte)
 }
 
-fn begin_unit(alloc: Global, stack: &mut Stack, level: Level, byte: u8) -> Mem<Option<State>>
+#[inline(always)]
+fn begin_unit(alloc: Global, stack: &mut Stack, level: Boxed<Level>, byte: u8) -> Mem<Option<State>>
     requires { byte < 128 }
     ensures { IfOk result (λ next. Turned (machine.begin_unit level stack.old byte) next stack.new) }
 {
@@ -42,35 +46,45 @@ fn begin_unit(alloc: Global, stack: &mut Stack, level: Level, byte: u8) -> Mem<O
             level,
         })?;
         return Ok(Some(State::Unit {
-            level: no_units(alloc),
+            level: no_units(alloc)?,
         }));
     }
     let side = Side {
         compared: None,
         level,
     };
-    begin_operand(alloc, side, byte)
+    begin_operand(alloc, Boxed::new(alloc, side)?, byte)
 }
 
+#[inline(always)]
 pub fn after_group(
+    alloc: Global,
     stack: &mut Stack,
     unit: Expression,
-    level: Level,
+    level: Boxed<Level>,
     byte: u8,
 ) -> Mem<Option<State>>
     ensures { IfOk result (λ next. Turned (machine.after_group unit level stack.old byte) next stack.new) }
 {
     if is_blank(byte) {
+        let unit = Boxed::new(alloc, unit)?;
         return Ok(Some(State::AfterGroup { unit, level }));
     }
-    end_unit(stack, unit, level, byte)
+    end_unit(alloc, stack, unit, level, byte)
 }
 
 // What follows a unit is `and`, `or`, or what closes the innermost bracket or parenthesis.
-pub fn end_unit(stack: &mut Stack, unit: Expression, level: Level, byte: u8) -> Mem<Option<State>>
+pub fn end_unit(
+    alloc: Global,
+    stack: &mut Stack,
+    unit: Expression,
+    level: Boxed<Level>,
+    byte: u8,
+) -> Mem<Option<State>>
     ensures { IfOk result (λ next. Turned (machine.end_unit unit level stack.old byte) next stack.new) }
 {
     if byte == b'a' {
+        let unit = Boxed::new(alloc, unit)?;
         return Ok(Some(State::Link {
             link: Link::A,
             unit,
@@ -78,19 +92,20 @@ pub fn end_unit(stack: &mut Stack, unit: Expression, level: Level, byte: u8) -> 
         }));
     }
     if byte == b'o' {
+        let unit = Boxed::new(alloc, unit)?;
         return Ok(Some(State::Link {
             link: Link::O,
             unit,
             level,
         }));
     }
-    let Level { ors, ands } = level;
+    let Level { ors, ands } = level.into_inner();
     let whole = joined_or(ors, joined_and(ands, unit)?)?;
-    close(stack, whole, byte)
+    close(alloc, stack, whole, byte)
 }
 
 // Closes the innermost bracket or parenthesis after an expression.
-fn close(stack: &mut Stack, whole: Expression, byte: u8) -> Mem<Option<State>>
+fn close(alloc: Global, stack: &mut Stack, whole: Expression, byte: u8) -> Mem<Option<State>>
     ensures { IfOk result (λ next. Turned (machine.close whole stack.old byte) next stack.new) }
 {
     match stack.pop() {
@@ -98,21 +113,22 @@ fn close(stack: &mut Stack, whole: Expression, byte: u8) -> Mem<Option<State>>
             if byte != b']' {
                 return Ok(None);
             }
-            let step = with_predicate(step, whole)?;
+            let step = with_predicate(step.into_inner(), whole)?;
+            let step = Boxed::new(alloc, step)?;
             Ok(Some(State::AfterStep { step, spot }))
         }
         Some(Frame::Paren { negated, level }) => {
             if byte != b')' {
                 return Ok(None);
             }
-            let unit = negated_if(negated, whole, level.ors.allocator())?;
+            let unit = Boxed::new(alloc, negated_if(negated, whole, alloc)?)?;
             Ok(Some(State::AfterGroup { unit, level }))
         }
         None => Ok(None),
     }
 }
 
-fn with_predicate(step: Step<Expression>, predicate: Expression) -> Mem<Step<Expression>>
+pub fn with_predicate(step: Step<Expression>, predicate: Expression) -> Mem<Step<Expression>>
     ensures { IfOk result (λ made. made ≡ trees.with_predicate step predicate) }
 {
     let Step {
@@ -137,12 +153,13 @@ fn negated_if(negated: bool, inner: Expression, alloc: Global) -> Mem<Expression
     Ok(Expression::Not(Boxed::new(alloc, inner)?))
 }
 
+#[inline(always)]
 pub fn after_link(
     alloc: Global,
     stack: &mut Stack,
     link: Link,
-    unit: Expression,
-    level: Level,
+    unit: Boxed<Expression>,
+    level: Boxed<Level>,
     byte: u8,
 ) -> Mem<Option<State>>
     requires { byte < 128 }
@@ -156,20 +173,21 @@ pub fn after_link(
             if is_word_byte(byte) {
                 return Ok(None);
             }
-            let level = after_and(level, unit)?;
+            let level = after_and(alloc, level, unit.into_inner())?;
             self::unit(alloc, stack, level, byte)
         }
         Link::Or => {
             if is_word_byte(byte) {
                 return Ok(None);
             }
-            let level = after_or(level, unit)?;
+            let level = after_or(alloc, level, unit.into_inner())?;
             self::unit(alloc, stack, level, byte)
         }
     }
 }
 
-fn link_if(holds: bool, link: Link, unit: Expression, level: Level) -> Option<State>
+#[inline(always)]
+fn link_if(holds: bool, link: Link, unit: Boxed<Expression>, level: Boxed<Level>) -> Option<State>
     ensures { result ≡ machine.link_if holds link unit level }
 {
     if !holds {
@@ -179,26 +197,27 @@ fn link_if(holds: bool, link: Link, unit: Expression, level: Level) -> Option<St
 }
 
 // The level where the unit is followed by `and`.
-fn after_and(level: Level, unit: Expression) -> Mem<Level>
+fn after_and(alloc: Global, level: Boxed<Level>, unit: Expression) -> Mem<Boxed<Level>>
     ensures { IfOk result (λ next. next ≡ machine.after_and level unit) }
 {
-    let Level { ors, ands } = level;
-    Ok(Level {
+    let Level { ors, ands } = level.into_inner();
+    let level = Level {
         ors,
         ands: add_and(ands, unit)?,
-    })
+    };
+    Ok(Boxed::new(alloc, level)?)
 }
 
 // The level where the unit is followed by `or`.
-fn after_or(level: Level, unit: Expression) -> Mem<Level>
+fn after_or(alloc: Global, level: Boxed<Level>, unit: Expression) -> Mem<Boxed<Level>>
     ensures { IfOk result (λ next. next ≡ machine.after_or level unit) }
 {
-    let Level { ors, ands } = level;
-    let alloc = ors.allocator();
-    Ok(Level {
+    let Level { ors, ands } = level.into_inner();
+    let level = Level {
         ors: add_or(ors, joined_and(ands, unit)?)?,
         ands: Sequence::new(alloc),
-    })
+    };
+    Ok(Boxed::new(alloc, level)?)
 }
 
 // The `and` of some expressions and one more. An `and` in it gives its parts.

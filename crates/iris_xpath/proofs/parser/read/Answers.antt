@@ -1,7 +1,9 @@
-use Rattle.std.proofs.Common.{rules, max, subst, ap, sym, ◌∙◌}
+use Rattle.std.proofs.Common.{rules, arith, max, subst, ap, sym, ◌∙◌}
 use Rattle.iris_xpath.specs.Trees.{named}
+use Rattle.iris_xpath.specs.Parens.{parens_in}
 use Rattle.iris_xpath.specs.Reading.{Traced}
 use Rattle.iris_xpath.proofs.Words.{tells, knows}
+use Rattle.iris_xpath.proofs.WordRuns.{reached_on, traced_on, within_max, no_longer}
 use Rattle.iris_xpath.proofs.Judging.{found_end, stop_end, empty_is, refused_end}
 use Rattle.iris_xpath.proofs.parser.read.Goals as goal
 
@@ -16,10 +18,16 @@ returns-in-Ok-None-clause-refused c =
 pub bytes-preserved : goal.bytes-preserved
 bytes-preserved c =
     let k = c.in-Ok.ensures in
-    let p = c.parens.ensures in
-    let m = c.max-parens.ensures in
+    let r = c.in-Ok-read_word.ensures in
+    let deepest = max c.bytes.parens (parens_in c.advance.new.stack) in
     record {
       utf8 = search rules;
-      traced = subst (Traced (named c.args.kinds.now) c.args.text.now c.in-Ok.next c.advance.new.stack c.in-Ok.after.now) (sym (c.max-parens.ensures ∙ ap (max c.bytes.parens) c.parens.ensures)) (c.in-Ok.ensures.traced c.bytes.parens c.bytes.invariant.traced);
-      reached = c.in-Ok.ensures.ok;
+      traced = subst (Traced (named c.args.kinds.now) c.args.text.now c.read_word.new.state c.advance.new.stack c.in-Ok-read_word.after.now) (sym (c.max-parens.ensures ∙ ap (max c.bytes.parens) c.parens.ensures)) (traced_on (named c.args.kinds.now) c.args.text.now c.in-Ok.next c.read_word.new.state c.advance.new.stack c.in-Ok.after.now c.in-Ok-read_word.after.now deepest (k.traced c.bytes.parens c.bytes.invariant.traced) (within_max c.bytes.parens (parens_in c.advance.new.stack)) r);
+      reached = reached_on (named c.args.kinds.now) c.args.text.now c.in-Ok.next c.read_word.new.state c.advance.new.stack c.in-Ok.after.now c.in-Ok-read_word.after.now k.ok r;
     }
+
+pub bytes-smaller : goal.bytes-smaller
+bytes-smaller c =
+    let k = c.in-Ok.ensures.shorter in
+    let l = no_longer c.in-Ok.next c.read_word.new.state c.in-Ok.after.now c.in-Ok-read_word.after.now c.in-Ok-read_word.ensures in
+    omega (arith, k, l)

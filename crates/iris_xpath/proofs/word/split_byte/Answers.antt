@@ -1,6 +1,6 @@
 use Rattle.std.proofs.Common.{subst, ◌<◌, get_or, List, ℕ}
 use Rattle.iris_xpath.proofs.Judging.{ascii_boundary}
-use Rattle.iris_xpath.proofs.parser.split_byte.Goals as goal
+use Rattle.iris_xpath.proofs.word.split_byte.Goals as goal
 
 pub range_from-requires : goal.range_from-requires
 range_from-requires c =

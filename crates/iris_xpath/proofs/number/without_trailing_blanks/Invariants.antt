@@ -1,0 +1,13 @@
+use Rattle.std.proofs.Common.{◌≡◌, ◌≤◌, length, take}
+use Rattle.iris_xpath.specs.Values.{without_trailing_blanks}
+use Rattle.iris_xpath.proofs.number.without_trailing_blanks.Given as goal
+
+-- the blanks behind are nothing
+abbrev pub invariant-loop-end : goal.invariant-loop-end
+invariant-loop-end l = record {
+  within : l.end ≤ length l.bytes;
+  same : without_trailing_blanks (take l.end l.bytes) ≡ without_trailing_blanks l.bytes;
+}
+
+abbrev pub decreases-loop-end : goal.decreases-loop-end
+decreases-loop-end l = l.end
