@@ -19,7 +19,7 @@ use Rattle.iris_json.specs.declared.city.FormError.{FormError}
 use Rattle.iris_json.specs.declared.city.FormError.TheVariants.{Shape, Memory}
 use Rattle.iris_base.specs.Forms.{IsTag}
 use Rattle.iris_json.specs.PlainForm.{AreNames, AreTexts}
-use Rattle.iris_json.specs.CityLine.{GivesCityPart}
+use Rattle.iris_json.specs.CityKeys.{GivesCityPart}
 
 -- an error that one reader may give another may give too
 pub same_error : {X Y : Type 0} (e : FormError) (x : X) (y : Y) → GivesCityPart (Err e) x → GivesCityPart (Err e) y

@@ -12,7 +12,8 @@ use Rattle.iris_tree.specs.declared.plain.Plain.{Plain}
 use Rattle.iris_json.specs.declared.line.LineError.{LineError}
 use Rattle.iris_json.specs.declared.line.LineError.TheVariants.{NotJson, BadLine, Memory}
 use Rattle.iris_json.specs.declared.line.LineWhy.{LineWhy}
-use Rattle.iris_json.specs.Lines.{pair_data, triple_data, IsChange, AreChanges, AreLineChanges, RefusesLinePart}
+use Rattle.iris_json.specs.ChangeLine.{pair_data, triple_data, IsChange, AreChanges, AreLineChanges}
+use Rattle.iris_json.specs.Lines.{RefusesLinePart}
 use Rattle.iris_json.specs.PlainLine.{IsPlain}
 use Rattle.iris_json.proofs.MemberKeys.{differ}
 use Rattle.iris_json.proofs.PlainReading.{plain_once}

@@ -23,7 +23,7 @@ use Rattle.iris_json.specs.CityForm.{EachOwn, EachOwns, IsLocalForm, EachLocalFo
 use Rattle.iris_json.specs.CityLimits.{levels_of, levels_below, greatest_count, greatest_below, count_children, count_attributes, count_plain, count_plain_depth, count_local, passed_limit}
 use Rattle.iris_json.specs.PlainForm.{AreNames}
 use Rattle.iris_tree.specs.NamesKind.{plains_name_kind}
-use Rattle.iris_json.specs.CityLine.{OwnAt, IsNode, IsCity, is_node, AreNodes, none, more}
+use Rattle.iris_json.specs.CityKeys.{OwnAt, IsNode, is_node, AreNodes, none, more}
 use Rattle.iris_json.proofs.Extents.{within_none, none_within}
 
 -- ---- the form, beside the limits
@@ -171,10 +171,10 @@ mutual
   )
 
 -- a tree that is read and passes no limit has the nodes of a city
-pub tree_fits : (kinds : List (List ℕ)) (agent : List ℕ) (d : Data) (tree : Node) → IsCity d kinds agent tree → EachLocalForm tree → passed_limit tree ≡ None → IsCityNode kinds MAX_LABELS tree
-tree_fits kinds agent d tree is held within =
+pub tree_fits : (kinds : List (List ℕ)) (value : Data) (tree : Node) → IsNode kinds value tree → EachLocalForm tree → passed_limit tree ≡ None → IsCityNode kinds MAX_LABELS tree
+tree_fits kinds value tree is held within =
     let w = within_none tree within in
-    form_fits kinds MAX_LABELS tree (node_form kinds is.tree_at.0 tree is.tree_at.2) held w.labels (w.children, w.attributes, w.plain, w.plain_depth, w.local)
+    form_fits kinds MAX_LABELS tree (node_form kinds value tree is) held w.labels (w.children, w.attributes, w.plain, w.plain_depth, w.local)
 
 -- ---- and back
 

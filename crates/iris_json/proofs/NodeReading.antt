@@ -14,7 +14,7 @@ use Rattle.iris_tree.specs.Siblings.{HaveDistinctLabels, IsLabelOrder}
 use Rattle.iris_tree.specs.Universe.{Node, node, Nodes, nodes_of, list_of, label_of, local_of, children_of}
 use Rattle.iris_tree.proofs.Siblings.{list_of-nodes_of, label_order_once, label_order_distinct}
 use Rattle.iris_json.specs.CityForm.{EachLocalForm, AllLocalForms}
-use Rattle.iris_json.specs.CityLine.{LabelAt, LocalAt, OwnAt, NodesAt, IsNode, is_node, AreNodes, none, more}
+use Rattle.iris_json.specs.CityKeys.{LabelAt, LocalAt, OwnAt, NodesAt, IsNode, is_node, AreNodes, none, more}
 use Rattle.iris_json.specs.PlainLine.{AttrsAt, PlainsAt}
 use Rattle.iris_json.proofs.PlainReading.{attrs_once, items_once, plains_at_once}
 use Rattle.iris_json.proofs.MemberKeys.{object_of}
@@ -33,6 +33,10 @@ parts kinds d n (is_node same label local items given ordered own at are order) 
 pub from_parts : (kinds : List (List ℕ)) (d : Data) (n : Node) (items : Items) (given : List Node) → OwnAt kinds d (label_of n) (local_of n) → NodesAt d items → AreNodes kinds items given → IsLabelOrder given (children_of n) → IsNode kinds d n
 from_parts kinds d (node label local ns) items given own at are order =
     subst (λ (ms : Nodes). IsNode kinds d (node label local ms)) (nodes_of-list_of ns) (is_node d label local items given (list_of ns) own at are order)
+
+-- the label of a node is that of its value
+pub own_label : (kinds : List (List ℕ)) (d : Data) (n : Node) → IsNode kinds d n → LabelAt kinds d (label_of n)
+own_label kinds d n is = (parts kinds d n is).2.1
 
 -- nodes with the same parts are the same
 same_node : (s t : Node) → label_of s ≡ label_of t → local_of s ≡ local_of t → children_of s ≡ children_of t → s ≡ t
@@ -72,7 +76,8 @@ node_there kinds (x ∷ vs) ns (suc i) v are within is =
 
 -- ---- one node at most
 
-label_once : (kinds : List (List ℕ)) (d : Data) (l m : Label) → LabelAt kinds d l → LabelAt kinds d m → l ≡ m
+-- a value has one label at most
+pub label_once : (kinds : List (List ℕ)) (d : Data) (l m : Label) → LabelAt kinds d l → LabelAt kinds d m → l ≡ m
 label_once kinds d l m h k =
     let first : l.kind ≡ m.kind = cc (h.0, k.0) in
     let second : l.id ≡ m.id = cc (h.1, k.1) in

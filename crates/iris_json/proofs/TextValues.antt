@@ -1,11 +1,15 @@
--- JSON values of texts alone: their compact text reads as they are.
-use Rattle.std.proofs.Common.{◌≡◌, ℕ, ◌≤◌, Bool, true, false, List, [], ◌∷◌, Option, Some, option_map, option_and_then, Less, Greater, nat_cmp, refl, ap, sym, ◌∙◌, arith, append-nil}
+-- JSON values of texts and whole numbers: their compact text reads as they are.
+use Rattle.std.proofs.Common.{◌≡◌, ℕ, ◌<◌, ◌≤◌, ◌^◌, Bool, true, false, List, [], ◌∷◌, Option, Some, option_map, option_and_then, Less, Greater, nat_cmp, refl, ap, sym, ◌∙◌, arith, append-nil}
 use Rattle.std.specs.Prelude.{⊤}
 use Rattle.std.specs.Cmp.Lexicographic.{slice_cmp}
 use Rattle.std.specs.Ordering.{ordering_reverse}
 use Rattle.std.specs.Str.{IsUtf8}
 use Rattle.std.proofs.lemmas.Cmp.{nat_list_cmp_total}
-use Rattle.std.proofs.lemmas.Str.{IsUtf8-nil, IsUtf8-append}
+use Rattle.std.specs.Fmt.{decimal}
+use Rattle.std.proofs.lemmas.Fmt.{IsAscii-decimal}
+use Rattle.std.proofs.lemmas.Str.{IsUtf8-nil, IsUtf8-append, IsUtf8-from_ascii}
+use Rattle.json.proofs.Printed.Decimals.{IsNumber-decimal}
+use Rattle.serde_json.proofs.Numbers.{number_of-decimal}
 use Rattle.json.specs.Token.{Token}
 use Rattle.json.specs.Lex.{tokens}
 use Rattle.json.specs.Json as json
@@ -13,7 +17,7 @@ use Rattle.json.specs.Tree as tree
 use Rattle.json.proofs.Printed.Tokens.{tokens-print}
 use Rattle.json.proofs.Printed.Trees.{value-json_tokens, ArePrintable-json_tokens}
 use Rattle.json.proofs.Printed.Utf8.{IsUtf8-are_ascii, IsUtf8-quoted}
-use Rattle.serde_json.specs.Data.{Data, null, boolean, number, string, array, object, Items, no_items, item, Members, no_members, member, put, depth, items_depth, members_depth}
+use Rattle.serde_json.specs.Data.{Num, unsigned, negative, float, Data, null, boolean, number, string, array, object, Items, no_items, item, Members, no_members, member, put, depth, items_depth, members_depth}
 use Rattle.serde_json.specs.Read.{of_json, of_items, of_members, max_depth}
 use Rattle.serde_json.specs.Written.{outline, items_outline, members_outline, comma_if, compact_text, items_text, members_text}
 use Rattle.serde_json.proofs.Texts.{print-outline}
@@ -24,12 +28,18 @@ abbrev pub KeysAfter : List ℕ → Members → Type 0
 KeysAfter key no_members = ⊤
 KeysAfter key (member k d ms) = (slice_cmp nat_cmp key k ≡ Less) × KeysAfter key ms
 
--- a value of texts, whose objects have each key once, in the order of their bytes
+-- a whole number that a `u64` holds
+abbrev pub IsWholeNumber : Num → Type 0
+IsWholeNumber (unsigned n) = n < 2 ^ 64
+IsWholeNumber (negative z) = ⊥
+IsWholeNumber (float x) = ⊥
+
+-- a value of texts and whole numbers, whose objects have each key once, in the order of their bytes
 abbrev mutual
   pub IsOfTexts : Data → Type 0
   IsOfTexts null = ⊥
   IsOfTexts (boolean b) = ⊥
-  IsOfTexts (number n) = ⊥
+  IsOfTexts (number n) = IsWholeNumber n
   IsOfTexts (string s) = IsUtf8 s
   IsOfTexts (array ds) = AreOfTexts ds
   IsOfTexts (object ms) = HasTexts ms
@@ -52,7 +62,9 @@ mutual
   utf8 : (d : Data) → IsOfTexts d → IsUtf8 (compact_text d)
   utf8 null h = absurd h
   utf8 (boolean b) h = absurd h
-  utf8 (number n) h = absurd h
+  utf8 (number (unsigned n)) h = IsUtf8-from_ascii (decimal n) (IsAscii-decimal n h)
+  utf8 (number (negative z)) h = absurd h
+  utf8 (number (float x)) h = absurd h
   utf8 (string s) h = IsUtf8-quoted s h
   utf8 (array ds) h = IsUtf8-append (91 ∷ []) _ (IsUtf8-are_ascii (91 ∷ []) refl) (utf8-items false ds h)
   utf8 (object ms) h = IsUtf8-append (123 ∷ []) _ (IsUtf8-are_ascii (123 ∷ []) refl) (utf8-members false ms h)
@@ -74,7 +86,9 @@ mutual
   numbers : (d : Data) → IsOfTexts d → tree.HasNumbers (outline d)
   numbers null h = absurd h
   numbers (boolean b) h = absurd h
-  numbers (number n) h = absurd h
+  numbers (number (unsigned n)) h = IsNumber-decimal n h
+  numbers (number (negative z)) h = absurd h
+  numbers (number (float x)) h = absurd h
   numbers (string s) h = tt
   numbers (array ds) h = numbers-items ds h
   numbers (object ms) h = numbers-members ms h
@@ -152,7 +166,9 @@ mutual
   reads : (d : Data) → IsOfTexts d → of_json (outline d) ≡ Some d
   reads null h = absurd h
   reads (boolean b) h = absurd h
-  reads (number n) h = absurd h
+  reads (number (unsigned n)) h = ap (option_map number) (number_of-decimal n h)
+  reads (number (negative z)) h = absurd h
+  reads (number (float x)) h = absurd h
   reads (string s) h = refl
   reads (array ds) h = ap (option_map array) (reads-items ds h)
   reads (object ms) h = ap (option_map object) (reads-members no_members ms (all_before_none ms) h)

@@ -11,9 +11,10 @@ use Rattle.iris_base.specs.NameText.{name_text}
 use Rattle.iris_tree.specs.LocalText.{attrs_data, plain_data, value_tokens}
 use Rattle.iris_tree.specs.Universe.{Node, node, Nodes, no_nodes, nodes, label_of, local_of, list_of, children_of}
 use Rattle.iris_tree.specs.declared.item.Item.{Item}
+use Rattle.std.specs.Fmt.{decimal}
 use Rattle.iris_json.specs.declared.city.City.{City}
-use Rattle.iris_json.specs.CityLine.{texts_data}
-use Rattle.iris_json.specs.CityText.{places_data, city_data}
+use Rattle.iris_json.specs.CityKeys.{texts_data, numbers_data, places_data, show_text, cap_data}
+use Rattle.iris_json.specs.CityText.{city_data, front_tokens, back_tokens}
 use Rattle.iris_json.specs.Render.{node_data, nodes_data, element_data, item_data}
 use Rattle.iris_json.specs.declared.row.Field.{Field}
 use Rattle.iris_json.specs.Rows.{members_of, row_data, field_data, fields_of}
@@ -44,6 +45,11 @@ pub text_written : (text : List ℕ) → value_tokens (string text) ≡ Token.st
 unfolding value_tokens
 text_written text = refl
 
+-- a capacity
+pub cap_written : (cap : ℕ) → value_tokens (cap_data cap) ≡ Token.number (decimal cap) ∷ []
+unfolding value_tokens
+cap_written cap = refl
+
 -- the nodes below a node, and what follows them
 nodes_written : (ns : Nodes) (ts : List Token) → items_tokens (items_outline (nodes_data ns)) ++ ts ≡ all_tokens node_data (list_of ns) ++ Token.end_array ∷ ts
 unfolding value_tokens
@@ -63,12 +69,20 @@ node_written (node label local below) =
     (nodes_written below (Token.key (codes "plain") ∷ Token.begin_array ∷ (items_tokens (items_outline (items_of (map plain_data local.plain))) ++ Token.end_object ∷ []))
     ∙ ap (λ (ts : List Token). all_tokens node_data (list_of below) ++ (Token.end_array ∷ Token.key (codes "plain") ∷ Token.begin_array ∷ ts)) (items_written plain_data local.plain (Token.end_object ∷ [])))
 
+front_joined : (k l m n : Token) (as_ bs cs ds rest : List Token) → (k ∷ (as_ ++ (l ∷ (bs ++ (m ∷ (cs ++ (n ∷ ds))))))) ++ rest ≡ k ∷ (as_ ++ (l ∷ (bs ++ (m ∷ (cs ++ (n ∷ (ds ++ rest)))))))
+front_joined k l m n as_ bs cs ds rest = simp append_assoc
+
+back_joined : (k t l m u : Token) (as_ rest : List Token) → (k ∷ t ∷ l ∷ (as_ ++ (m ∷ u ∷ []))) ++ rest ≡ k ∷ t ∷ l ∷ (as_ ++ (m ∷ u ∷ rest))
+back_joined k t l m u as_ rest = simp append_assoc
+
 -- a city
-pub city_written : (city : City) → value_tokens (city_data city)
-    ≡ Token.begin_object ∷ Token.key (codes "agents") ∷ (value_tokens (texts_data city.agents) ++ (Token.key (codes "kinds") ∷ (value_tokens (texts_data city.kinds)
-    ++ (Token.key (codes "place") ∷ (value_tokens (places_data city.place) ++ (Token.key (codes "tree") ∷ (value_tokens (node_data city.tree) ++ Token.end_object ∷ [])))))))
+pub city_written : (city : City) → value_tokens (city_data city) ≡ Token.begin_object ∷ (front_tokens city ++ (back_tokens city ++ Token.end_object ∷ []))
 unfolding value_tokens
-city_written city = refl
+city_written city =
+    let back = back_joined (Token.key (codes "show")) (Token.string (show_text city.show)) (Token.key (codes "tree")) (Token.key (codes "zone")) (Token.string city.zone) (value_tokens (node_data city.tree)) (Token.end_object ∷ []) in
+    let end : List Token = Token.key (codes "show") ∷ Token.string (show_text city.show) ∷ Token.key (codes "tree") ∷ (value_tokens (node_data city.tree) ++ (Token.key (codes "zone") ∷ Token.string city.zone ∷ Token.end_object ∷ [])) in
+    let front = front_joined (Token.key (codes "agents")) (Token.key (codes "caps")) (Token.key (codes "kinds")) (Token.key (codes "place")) (value_tokens (texts_data city.agents)) (value_tokens (numbers_data city.caps)) (value_tokens (texts_data city.kinds)) (value_tokens (places_data city.place)) end in
+    sym (ap (λ (ts : List Token). Token.begin_object ∷ ts) (ap (λ (ts : List Token). front_tokens city ++ ts) back ∙ front))
 
 -- an item
 pub item_written : (i : Item) → value_tokens (item_data i)

@@ -1,25 +1,53 @@
 -- What a city keeps to, beside any text of it: its kinds, and its nodes.
-use Rattle.std.specs.Prelude.{◌≡◌, ℕ, zero, suc, ◌<◌, ◌≤◌, false, true, ⊤, List, length}
-use Rattle.std.specs.List.{AllByRecursion, IsDistinct, list_any}
+use Rattle.std.specs.Prelude.{◌≡◌, ℕ, zero, suc, ◌<◌, ◌≤◌, false, true, ⊤, List, [], ◌∷◌, length, map, is_some}
+use Rattle.std.specs.List.{AllByRecursion, IsDistinct, list_any, sum}
+use Rattle.std.specs.Cmp.Lexicographic.{pointwise}
 use Rattle.std.specs.Str.{bytes_eq}
 use Rattle.std.proofs.Props.{props}
-use Rattle.iris_base.specs.declared.limits.TheConstants.{MAX_KINDS, MAX_CHILDREN}
+use Rattle.iris_base.specs.declared.limits.TheConstants.{MAX_KINDS, MAX_CHILDREN, MAX_AGENTS, MAX_CAPACITY, MAX_CAPACITIES}
 use Rattle.iris_base.specs.declared.name.Label.{Label}
-use Rattle.iris_base.specs.Forms.{IsKind, IsId}
+use Rattle.iris_base.specs.Forms.{IsKind, IsId, IsAgentId}
+use Rattle.iris_base.specs.NameOrder.{label_eq}
 use Rattle.iris_tree.specs.declared.local.Local.{Local}
 use Rattle.iris_tree.specs.Changes.{fits}
 use Rattle.iris_tree.specs.NamesId.{NamesNoId}
 use Rattle.iris_tree.specs.PlainOrder.{IsCanonical}
-use Rattle.iris_tree.specs.Universe.{Node, node, Nodes, no_nodes, nodes, list_of}
+use Rattle.iris_tree.specs.Universe.{Node, node, Nodes, no_nodes, nodes, list_of, label_of, node_at}
 use Rattle.iris_json.specs.PlainForm.{AreNames, AreTexts, ArePlainForms}
 use Rattle.iris_tree.specs.NamesKind.{plains_name_kind}
 
+-- some different texts of a form, and no more than so many
+pub record AreWords (Is : List ℕ → Type 0) (most : ℕ) (words : List (List ℕ)) : Type 0 where
+  pub some : 0 < length words
+  pub few : length words ≤ most
+  pub each : AllByRecursion Is words
+  pub differ : IsDistinct bytes_eq words
+
 -- some different kinds, and no more than a city may have
-pub record AreKinds (kinds : List (List ℕ)) : Type 0 where
-  pub some : 0 < length kinds
-  pub few : length kinds ≤ MAX_KINDS
-  pub each : AllByRecursion IsKind kinds
-  pub differ : IsDistinct bytes_eq kinds
+abbrev pub AreKinds : List (List ℕ) → Type 0
+AreKinds = AreWords IsKind MAX_KINDS
+
+-- some different agents, and no more than a city may have
+abbrev pub AreAgents : List (List ℕ) → Type 0
+AreAgents = AreWords IsAgentId MAX_AGENTS
+
+-- a capacity for each of so many agents, none of them too large, nor all of them together
+pub record AreCapacities (agents : ℕ) (caps : List ℕ) : Type 0 where
+  pub each_has : length caps ≡ agents
+  pub some : AllByRecursion (λ cap. 0 < cap) caps
+  pub fits : AllByRecursion (λ cap. cap ≤ MAX_CAPACITY) caps
+  pub together : sum caps ≤ MAX_CAPACITIES
+
+-- the names that are placed
+abbrev pub placed_names : List (List Label × List ℕ) → List (List Label)
+placed_names place = map (λ p. p.0) place
+
+-- nodes of the tree, each placed once at one of the agents, and the top node among them
+pub record ArePlaced (agents : List (List ℕ)) (tree : Node) (place : List (List Label × List ℕ)) : Type 0 where
+  pub are_nodes : AllByRecursion (λ p. is_some (node_at tree p.0) ≡ true) place
+  pub once : IsDistinct (pointwise label_eq) (placed_names place)
+  pub listed : AllByRecursion (λ p. list_any (bytes_eq p.1) agents ≡ true) place
+  pub top : list_any (pointwise label_eq (label_of tree ∷ [])) (placed_names place) ≡ true
 
 -- what a node of a city is called and holds itself: it is of one of the kinds; its attributes and plain elements are of their form, none of them named `id` and none of a tag that is a kind; the plain elements stand in the order of their texts at every depth; and no limit is passed
 pub record IsCityOwn (kinds : List (List ℕ)) (label : Label) (local : Local) : Type 0 where
@@ -73,6 +101,18 @@ abbrev mutual
 -- of the kinds
 pub AreKinds-prop : (kinds : List (List ℕ)) → IsProp (AreKinds kinds)
 AreKinds-prop kinds = hlevel props
+
+-- of the agents
+pub AreAgents-prop : (agents : List (List ℕ)) → IsProp (AreAgents agents)
+AreAgents-prop agents = hlevel props
+
+-- of their capacities
+pub AreCapacities-prop : (agents : ℕ) (caps : List ℕ) → IsProp (AreCapacities agents caps)
+AreCapacities-prop agents caps = hlevel props
+
+-- of what is placed
+pub ArePlaced-prop : (agents : List (List ℕ)) (tree : Node) (place : List (List Label × List ℕ)) → IsProp (ArePlaced agents tree place)
+ArePlaced-prop agents tree place = hlevel props
 
 -- of what a node of a city is called and holds itself
 pub IsCityOwn-prop : (kinds : List (List ℕ)) (label : Label) (local : Local) → IsProp (IsCityOwn kinds label local)

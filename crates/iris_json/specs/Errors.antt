@@ -6,9 +6,6 @@ use Rattle.iris_json.specs.declared.line.LineError.TheVariants as lines
 use Rattle.iris_json.specs.declared.line.LineWhy.TheVariants.{Name}
 use Rattle.iris_json.specs.declared.city.CityError.{CityError}
 use Rattle.iris_json.specs.declared.city.CityError.TheVariants as cities
-use Rattle.iris_json.specs.declared.city.CityWhy.TheVariants as whys
-use Rattle.iris_json.specs.declared.city.FormError.{FormError}
-use Rattle.iris_json.specs.declared.city.FormError.TheVariants as forms
 use Rattle.iris_base.specs.declared.error.NameError.{NameError}
 use Rattle.iris_base.specs.declared.error.NameError.TheVariants as names
 
@@ -26,8 +23,3 @@ name_error names.Memory = lines.Memory
 abbrev pub city_error : ValueError → CityError
 city_error values.NotJson = cities.NotJson
 city_error values.Memory = cities.Memory
-
--- a value that is not of its form is in no city line
-abbrev pub form_error : FormError → CityError
-form_error forms.Shape = cities.BadCity whys.Shape
-form_error forms.Memory = cities.Memory

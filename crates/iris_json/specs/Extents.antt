@@ -1,12 +1,9 @@
--- How large a tree is, as it is measured, and what the reader of a city line has read before.
-use Rattle.std.specs.Prelude.{◌≡◌, ℕ, ◌+◌, max, List, Option, None, Result, Ok, Err}
+-- How large a tree is, as it is measured.
+use Rattle.std.specs.Prelude.{ℕ, ◌+◌, max, Option, None}
 use Rattle.iris_base.specs.declared.limits.TheConstants.{MAX_NODES, MAX_LABELS, MAX_CHILDREN, MAX_ATTRIBUTES, MAX_PLAIN, MAX_PLAIN_DEPTH, MAX_LOCAL_BYTES}
 use Rattle.iris_tree.specs.NodeCode.{size_of}
 use Rattle.iris_tree.specs.TextLen.{saturated}
 use Rattle.iris_tree.specs.Universe.{Node}
-use Rattle.iris_json.specs.declared.city.FormError.{FormError}
-use Rattle.iris_json.specs.declared.city.FormError.TheVariants.{Shape, Memory}
-use Rattle.iris_json.specs.declared.city_line.Parts.{Parts}
 use Rattle.iris_json.specs.declared.extent.Extent.{Extent}
 use Rattle.iris_json.specs.declared.out.Which.{Which}
 use Rattle.iris_json.specs.declared.out.Which.TheVariants.{Nodes, Depth, Children, Attributes, Plain, PlainDepth, Local}
@@ -41,9 +38,3 @@ abbrev pub passed_by_extent : Extent → Option (Which × ℕ)
 passed_by_extent tree =
     past_limit Nodes MAX_NODES tree.nodes (past_limit Depth MAX_LABELS tree.labels (past_limit Children MAX_CHILDREN tree.children (past_limit Attributes MAX_ATTRIBUTES tree.attributes
     (past_limit Plain MAX_PLAIN tree.plain (past_limit PlainDepth MAX_PLAIN_DEPTH tree.plain_depth (past_limit Local MAX_LOCAL_BYTES tree.local None))))))
-
--- a reader gives these parts, unless there was no memory
-abbrev pub GivesParts : Result Parts FormError → List (List ℕ) → List ℕ → Node → Type 0
-GivesParts (Ok parts) kinds agent tree = (parts.kinds ≡ kinds) × (parts.agent ≡ agent) × (parts.tree ≡ tree)
-GivesParts (Err Shape) kinds agent tree = ⊥
-GivesParts (Err Memory) kinds agent tree = Unit {0}

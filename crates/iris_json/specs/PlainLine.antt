@@ -15,9 +15,13 @@ use Rattle.iris_json.specs.PlainForm.{AreNames, IsTextOrKids}
 abbrev pub ItemsAt : List ℕ → Data → Items → Type 0
 ItemsAt key d items = (get key d ≡ Some (array items)) ⊎ ((get key d ≡ None) × (items ≡ no_items))
 
--- the attributes at the key `attrs`; absent means none
+-- the names and texts at the key `attrs`; absent means none
+abbrev pub AttrsGiven : Data → Pairs → Type 0
+AttrsGiven d pairs = (get (codes "attrs") d ≡ Some (attrs_data pairs)) ⊎ ((get (codes "attrs") d ≡ None) × (pairs ≡ []))
+
+-- these are attributes, whose names are of their form
 abbrev pub AttrsAt : Data → Pairs → Type 0
-AttrsAt d pairs = ((get (codes "attrs") d ≡ Some (attrs_data pairs)) ⊎ ((get (codes "attrs") d ≡ None) × (pairs ≡ []))) × AreNames pairs
+AttrsAt d pairs = AttrsGiven d pairs × AreNames pairs
 
 -- the text at the key `text`; absent means the empty one
 abbrev pub OwnTextAt : Data → List ℕ → Type 0

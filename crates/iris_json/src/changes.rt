@@ -5,9 +5,11 @@ ghost use Rattle.serde_json.specs.View.{view, items_view};
 ghost use Rattle.iris_base.specs.Forms.{IsTag};
 ghost use Rattle.iris_tree.specs.declared.change.Change.{Change};
 ghost use Rattle.iris_json.specs.declared.line.LineWhy.{LineWhy};
-ghost use Rattle.iris_json.specs.Lines.{pair_data, triple_data, IsChange, AreLineChanges, RefusesLinePart};
+ghost use Rattle.iris_json.specs.ChangeLine.{pair_data, triple_data, IsChange, AreLineChanges};
+ghost use Rattle.iris_json.specs.Lines.{ReadsChanges, Gives, RefusesChanges, RefusesLinePart};
 
 use crate::city::FormError;
+use crate::keys::read_value;
 use crate::line::{LineError, LineWhy};
 use crate::plain::read_plain;
 use iris_tree::{Change, MAX_CHANGES, Sequence, Tag, Text};
@@ -105,7 +107,7 @@ fn read_change(alloc: Global, value: &Value) -> Result<Change, LineError>
 }
 
 /// The 1 to `MAX_CHANGES` changes that values are, in their order.
-pub fn read_changes(alloc: Global, items: &[Value]) -> Result<Sequence<Change>, LineError>
+pub fn changes_in(alloc: Global, items: &[Value]) -> Result<Sequence<Change>, LineError>
     ensures found { IfOk result (λ changes. AreLineChanges (items_view items.now) changes) }
     ensures refused { IfErr result (RefusesLinePart LineWhy.Change ((changes : List Change) → AreLineChanges (items_view items.now) changes → ⊥)) }
 {
@@ -117,4 +119,19 @@ pub fn read_changes(alloc: Global, items: &[Value]) -> Result<Sequence<Change>, 
         changes.push(read_change(alloc, item)?)?;
     }
     Ok(Sequence::from_vec(changes))
+}
+
+/// Reads the text of a list of 1 to `MAX_CHANGES` changes, as an update's line has it at `change`, in
+/// their order. `NotJson` comes where the text is no JSON text, and `BadLine` with `Change` where it is
+/// that of something else.
+pub fn read_changes(alloc: Global, text: &str) -> Result<Sequence<Change>, LineError>
+    ensures found { IfOk result (ReadsChanges text.now) }
+    ensures only { (changes : List Change) → ReadsChanges text.now changes → Gives result changes }
+    ensures refused { IfErr result (RefusesChanges text.now) }
+{
+    let value = read_value(alloc, text.as_bytes())?;
+    match value.as_array() {
+        Some(items) => changes_in(alloc, items.as_slice()),
+        None => Err(CHANGE),
+    }
 }

@@ -1,123 +1,39 @@
 //! The city line: the first line of a script.
-ghost use Rattle.std.specs.Prelude.{◌≡◌, ◌↔◌, ◌<◌, ◌≤◌, ℕ, List, [], ◌∷◌, length, codes, Some, IfOk, IfErr, IsTrue};
-ghost use Rattle.serde_json.specs.Data.{string, array, object, item, no_items};
-ghost use Rattle.serde_json.specs.Find.{get_member};
+ghost use Rattle.std.specs.Prelude.{◌≡◌, ◌<◌, ◌≤◌, length, IfOk, IfErr};
+ghost use Rattle.serde_json.specs.Data.{object};
 ghost use Rattle.serde_json.specs.View.{view, members_view};
 ghost use Rattle.iris_base.specs.declared.limits.TheConstants.{MAX_LABELS, MAX_NODES};
-ghost use Rattle.iris_base.specs.Forms.{IsKind, IsAgentId};
 ghost use Rattle.iris_tree.specs.NodeCode.{size_of};
-ghost use Rattle.iris_tree.specs.Universe.{Node, label_of};
-ghost use Rattle.iris_json.specs.CityForm.{AreKinds, EachLocalForm, IsCityNode};
-ghost use Rattle.iris_json.specs.CityLine.{texts_data, KindsAt, AgentAt, TreeAt, PlaceAt, IsCity, ReadsCity, IsHeldBy, GivesCityPart, GivesCity, RefusesCity};
-ghost use Rattle.iris_json.specs.Extents.{GivesParts};
+ghost use Rattle.iris_tree.specs.Universe.{Node};
+ghost use Rattle.iris_json.specs.declared.city.City.{City};
+ghost use Rattle.iris_json.specs.CityForm.{AreKinds, AreAgents, AreCapacities, ArePlaced, EachLocalForm, IsCityNode};
+ghost use Rattle.iris_json.specs.CityKeys.{TreeAt};
+ghost use Rattle.iris_json.specs.CityLine.{ReadsCity, GivesCity, RefusesCity};
+ghost use Rattle.iris_json.specs.CityReads.{HasNone, IsNoCity, LacksRow, FindsNone, AreParts};
 
-use crate::city::{City, CityError, FormError};
+use crate::city::{City, CityError, CityWhy, FormError, Show};
+use crate::city_fault::{Fault, find_fault};
+use crate::city_keys::{CITY_KEYS, read_agents, read_caps, read_kinds, read_show, read_zone};
+use crate::city_place::read_place;
 use crate::extent::Extent;
-use crate::keys::{Members, has_only, list_at, read_value, sole_at, value_at};
+use crate::keys::{Members, has_only, read_value, value_at};
 use crate::node::read_node;
 use crate::out::Which;
-use iris_tree::{
-    AgentId, Kind, Label, MAX_CITY_BYTES, MAX_KINDS, Mem, Name, Sequence, Tree, name_text,
-};
+use crate::zone::Zone;
+use iris_tree::{AgentId, Kind, MAX_CITY_BYTES, Name, Sequence, Tree};
 use serde_json::Value;
 use std::alloc::Global;
 
-// The kind that a value is.
-fn read_kind(value: &Value) -> Result<Kind, FormError>
-    ensures found { IfOk result (λ kind. (view value.now ≡ string kind) × IsKind kind) }
-    ensures only { (kind : List ℕ) → view value.now ≡ string kind → IsKind kind → GivesCityPart result kind }
-{
-    let Some(text) = value.as_str() else {
-        return Err(FormError::Shape);
-    };
-    match Kind::new(text) {
-        Ok(kind) => Ok(kind),
-        Err(_) => Err(FormError::Shape),
-    }
-}
-
-// The list of different kinds at the key `kinds`.
-fn read_kinds(alloc: Global, members: &Members) -> Result<Sequence<Kind>, FormError>
-    ensures found { IfOk result (λ kinds. KindsAt (object (members_view members.now.entries)) kinds) }
-    ensures only { (kinds : List (List ℕ)) → KindsAt (object (members_view members.now.entries)) kinds → GivesCityPart result kinds }
-{
-    let Some(items) = list_at(members, "kinds") else {
-        return Err(FormError::Shape);
-    };
-    if items.is_empty() || items.len() > MAX_KINDS {
-        return Err(FormError::Shape);
-    }
-    let mut kinds = Vec::new(alloc);
-    for item in items {
-        let kind = read_kind(item)?;
-        if kinds.contains(&kind) {
-            return Err(FormError::Shape);
-        }
-        kinds.push(kind)?;
-    }
-    Ok(Sequence::from_vec(kinds))
-}
-
-// The one agent at the key `agents`.
-fn read_agent(members: &Members) -> Result<AgentId, FormError>
-    ensures found { IfOk result (λ agent. AgentAt (object (members_view members.now.entries)) agent) }
-    ensures only { (agent : List ℕ) → AgentAt (object (members_view members.now.entries)) agent → GivesCityPart result agent }
-{
-    let Some(item) = sole_at(members, "agents") else {
-        return Err(FormError::Shape);
-    };
-    let Some(text) = item.as_str() else {
-        return Err(FormError::Shape);
-    };
-    match AgentId::new(text) {
-        Ok(agent) => Ok(agent),
-        Err(_) => Err(FormError::Shape),
-    }
-}
-
-// Whether a value is that text.
-fn is_text(value: &Value, text: &str) -> bool
-    ensures { IsTrue result ↔ (view value.now ≡ string text.now) }
-{
-    match value.as_str() {
-        Some(found) => found == text,
-        None => false,
-    }
-}
-
-// Whether the key `place` has the one pair of these texts.
-fn places(members: &Members, name: &str, agent: &str) -> bool
-    ensures { IsTrue result ↔ (get_member (codes "place") (members_view members.now.entries) ≡ Some (array (item (texts_data (name.now ∷ agent.now ∷ [])) no_items))) }
-{
-    let Some(item) = sole_at(members, "place") else {
-        return false;
-    };
-    let Some(pair) = item.as_array() else {
-        return false;
-    };
-    match pair.as_slice() {
-        [first, second] => is_text(first, name) && is_text(second, agent),
-        _ => false,
-    }
-}
-
-// The name of the top node, which the key `place` gives to the agent.
-fn read_place(
-    alloc: Global,
-    members: &Members,
-    top: Label,
-    agent: AgentId,
-) -> Result<Name, FormError>
-    ensures found { IfOk result (λ name. (name ≡ top ∷ []) × PlaceAt (object (members_view members.now.entries)) top agent) }
-    ensures only { PlaceAt (object (members_view members.now.entries)) top agent → GivesCityPart result (top ∷ []) }
-{
-    let mut name = Name::document(alloc);
-    name.push(top)?;
-    let text = name_text(alloc, &name)?;
-    if !places(members, text.as_str(), agent.as_str()) {
-        return Err(FormError::Shape);
-    }
-    Ok(name)
+// What is in a line of the form of a city line, whose limits were not looked at.
+#[derive(Drop)]
+struct Parts {
+    kinds: Sequence<Kind>,
+    agents: Sequence<AgentId>,
+    caps: Sequence<u32>,
+    place: Sequence<(Name, AgentId)>,
+    tree: Tree,
+    zone: Zone,
+    show: Show,
 }
 
 // The tree at the key `tree`.
@@ -125,7 +41,7 @@ fn read_tree(alloc: Global, kinds: &[Kind], members: &Members) -> Result<Tree, F
     requires kinds { 0 < length kinds.now }
     ensures found { IfOk result (λ tree. TreeAt kinds.now (object (members_view members.now.entries)) tree) }
     ensures form { IfOk result EachLocalForm }
-    ensures only { (tree : Node) → TreeAt kinds.now (object (members_view members.now.entries)) tree → GivesCityPart result tree }
+    ensures refused { IfErr result (HasNone ((tree : Node) → TreeAt kinds.now (object (members_view members.now.entries)) tree → ⊥)) }
 {
     let Some(value) = value_at(members, "tree") else {
         return Err(FormError::Shape);
@@ -133,85 +49,107 @@ fn read_tree(alloc: Global, kinds: &[Kind], members: &Members) -> Result<Tree, F
     read_node(alloc, kinds, value)
 }
 
-// What is in a line of the form of a city line, whose limits were not looked at.
-#[derive(Drop)]
-struct Parts {
-    kinds: Sequence<Kind>,
-    agent: AgentId,
-    // The top node's name.
-    top: Name,
-    tree: Tree,
-}
-
 // What is in an object.
 fn read_parts(alloc: Global, members: &Members) -> Result<Parts, FormError>
-    ensures found { IfOk result (λ parts. IsCity (object (members_view members.now.entries)) parts.kinds parts.agent parts.tree) }
+    ensures found { IfOk result (AreParts (object (members_view members.now.entries))) }
     ensures form { IfOk result (λ parts. EachLocalForm parts.tree) }
-    ensures top { IfOk result (λ parts. parts.top ≡ label_of parts.tree ∷ []) }
-    ensures only { (kinds : List (List ℕ)) (agent : List ℕ) (tree : Node) → IsCity (object (members_view members.now.entries)) kinds agent tree → GivesParts result kinds agent tree }
+    ensures refused { IfErr result (HasNone (IsNoCity (object (members_view members.now.entries)))) }
 {
-    if !has_only(members, &["kinds", "agents", "place", "tree"]) {
+    if !has_only(members, &CITY_KEYS) {
         return Err(FormError::Shape);
     }
     let kinds = read_kinds(alloc, members)?;
-    let agent = read_agent(members)?;
+    let agents = read_agents(alloc, members)?;
+    let caps = read_caps(alloc, members, agents.as_slice())?;
     let tree = read_tree(alloc, kinds.as_slice(), members)?;
-    let top = read_place(alloc, members, *tree.label(), agent)?;
+    let place = read_place(alloc, members, agents.as_slice(), &tree)?;
+    let zone = read_zone(alloc, members)?;
+    let Some(show) = read_show(members) else {
+        return Err(FormError::Shape);
+    };
     Ok(Parts {
         kinds,
-        agent,
-        top,
+        agents,
+        caps,
+        place,
         tree,
+        zone,
+        show,
     })
 }
 
 // What is in a value.
-fn read_form(alloc: Global, value: &Value) -> Result<Parts, FormError>
-    ensures found { IfOk result (λ parts. IsCity (view value.now) parts.kinds parts.agent parts.tree) }
+fn read_form(alloc: Global, value: &Value) -> Result<Parts, CityError>
+    ensures found { IfOk result (AreParts (view value.now)) }
     ensures form { IfOk result (λ parts. EachLocalForm parts.tree) }
-    ensures top { IfOk result (λ parts. parts.top ≡ label_of parts.tree ∷ []) }
-    ensures only { (kinds : List (List ℕ)) (agent : List ℕ) (tree : Node) → IsCity (view value.now) kinds agent tree → GivesParts result kinds agent tree }
+    ensures refused { IfErr result (LacksRow (view value.now)) }
+    ensures none { IfErr result (FindsNone (view value.now)) }
 {
-    match value.as_object() {
-        Some(members) => read_parts(alloc, members),
-        None => Err(FormError::Shape),
+    let Some(members) = value.as_object() else {
+        return Err(CityError::BadCity {
+            node: 0,
+            why: CityWhy::Shape,
+        });
+    };
+    match read_parts(alloc, members) {
+        Ok(parts) => Ok(parts),
+        Err(FormError::Memory) => Err(CityError::Memory),
+        Err(FormError::Shape) => {
+            let Fault { node, why } = find_fault(alloc, members)?;
+            Err(CityError::BadCity { node, why })
+        }
     }
 }
 
-// The city of what was read.
-fn city_of(alloc: Global, parts: Parts) -> Mem<City>
+// The city of these parts.
+fn city_of(parts: Parts) -> City
     requires kinds { AreKinds parts.kinds }
-    requires agent { IsAgentId parts.agent }
-    requires top { parts.top ≡ label_of parts.tree ∷ [] }
+    requires agents { AreAgents parts.agents }
+    requires caps { AreCapacities (length parts.agents) parts.caps }
+    requires placed { ArePlaced parts.agents parts.tree parts.place }
     requires nodes { IsCityNode parts.kinds MAX_LABELS parts.tree }
     requires few_nodes { size_of parts.tree ≤ MAX_NODES }
-    ensures kinds { IfOk result (λ city. city.kinds ≡ parts.kinds) }
-    ensures tree { IfOk result (λ city. city.tree ≡ parts.tree) }
-    ensures held { IfOk result (λ city. IsHeldBy city parts.agent) }
+    ensures kinds { result.kinds ≡ parts.kinds }
+    ensures agents { result.agents ≡ parts.agents }
+    ensures caps { result.caps ≡ parts.caps }
+    ensures place { result.place ≡ parts.place }
+    ensures tree { result.tree ≡ parts.tree }
+    ensures zone { result.zone ≡ parts.zone }
+    ensures show { result.show ≡ parts.show }
 {
-    let mut agents = Sequence::new(alloc);
-    agents.push(parts.agent)?;
-    let mut place = Sequence::new(alloc);
-    place.push((parts.top, parts.agent))?;
-    Ok(City {
+    City {
         kinds: parts.kinds,
-        agents,
-        place,
+        agents: parts.agents,
+        caps: parts.caps,
+        place: parts.place,
         tree: parts.tree,
-    })
+        zone: parts.zone,
+        show: parts.show,
+    }
 }
 
-/// Reads the city line, without its LF: 1 to `MAX_KINDS` different kinds; one agent; the one pair of the top
-/// node's name and that agent as places; the nodes, no two siblings with one label, no attribute named
-/// `id`, no plain element whose tag is a kind, and none with both kids and a text. A line has at most
-/// `MAX_CITY_BYTES` bytes, a city `MAX_NODES` nodes and `MAX_LABELS` labels in a name, a node
-/// `MAX_CHILDREN` children, `MAX_PLAIN` plain elements in `MAX_PLAIN_DEPTH` levels and `MAX_LOCAL_BYTES`
-/// bytes of canonical local information, a node and a plain element `MAX_ATTRIBUTES` attributes. The
-/// form of the whole line is looked at before the limits of its nodes. Plain elements stand in the
-/// city in the order of their texts, in whatever order the line has them.
+/// Reads the city line, without its LF. It is an object with these keys and no others:
+///
+/// | Key | Value |
+/// |---|---|
+/// | `kinds` | 1 to `MAX_KINDS` different kinds |
+/// | `agents` | 1 to `MAX_AGENTS` different agents |
+/// | `caps` | a capacity for each agent, 1 to `MAX_CAPACITY`, together at most `MAX_CAPACITIES`; absent, `DEFAULT_CAPACITY` each |
+/// | `place` | pairs of a node's name and an agent, no name twice, the top node among them |
+/// | `tree` | the top node |
+/// | `zone` | the text of a POSIX zone; absent, `UTC0` |
+/// | `show` | `all` or `summary`; absent, `all` |
+///
+/// A node is an object with the keys `kind` and `id` and the optional keys `attrs`, `plain` and `nodes`; no
+/// two siblings have one label, no attribute is named `id`, no plain element has the tag of a kind, and none
+/// both kids and a text. A line has at most `MAX_CITY_BYTES` bytes, a city `MAX_NODES` nodes and `MAX_LABELS`
+/// labels in a name, a node `MAX_CHILDREN` children, `MAX_PLAIN` plain elements in `MAX_PLAIN_DEPTH` levels and
+/// `MAX_LOCAL_BYTES` bytes of canonical local information, a node and a plain element `MAX_ATTRIBUTES`
+/// attributes. The form of the whole line is looked at before the limits of its nodes. Plain elements stand
+/// in the city in the order of their texts, in whatever order the line has them.
 pub fn read_city(alloc: Global, bytes: &[u8]) -> Result<City, CityError>
-    ensures found { IfOk result (λ city. (agent : List ℕ) × ReadsCity bytes.now city.kinds agent city.tree × IsHeldBy city agent) }
-    ensures only { (kinds : List (List ℕ)) (agent : List ℕ) (tree : Node) → ReadsCity bytes.now kinds agent tree → GivesCity result kinds agent tree }
+    ensures found { IfOk result (ReadsCity bytes.now) }
+    ensures only { (city : City) → ReadsCity bytes.now city → GivesCity result city }
     ensures refused { IfErr result (RefusesCity bytes.now) }
 {
     if bytes.len() > MAX_CITY_BYTES {
@@ -225,5 +163,5 @@ pub fn read_city(alloc: Global, bytes: &[u8]) -> Result<City, CityError>
     if let Some((which, count)) = Extent::of(&parts.tree).passed() {
         return Err(CityError::CityLimit { which, count });
     }
-    Ok(city_of(alloc, parts)?)
+    Ok(city_of(parts))
 }

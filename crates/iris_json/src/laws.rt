@@ -1,9 +1,13 @@
 //! Laws of the definitions. Each function does nothing, and its clause is the law.
-ghost use Rattle.std.specs.Prelude.{◌≡◌, ℕ, List};
-ghost use Rattle.iris_tree.specs.Universe.{Node};
+ghost use Rattle.std.specs.Prelude.{◌≡◌, ℕ, true, List};
+ghost use Rattle.iris_json.specs.declared.city.City.{City};
+ghost use Rattle.iris_json.specs.declared.find.Arrival.{Arrival};
 ghost use Rattle.iris_json.specs.declared.line.Line.{Line};
+ghost use Rattle.iris_json.specs.declared.out.Out.{Out};
 ghost use Rattle.iris_json.specs.Lines.{ReadsLine};
 ghost use Rattle.iris_json.specs.CityLine.{ReadsCity};
+ghost use Rattle.iris_json.specs.Out.{out_row, keys_rise};
+ghost use Rattle.iris_json.specs.Zones.{IsArrival};
 
 /// A text is one line at most.
 pub fn text_is_one_line()
@@ -12,5 +16,15 @@ pub fn text_is_one_line()
 
 /// A text is the line of one city at most.
 pub fn text_is_one_city()
-    ensures once { (bytes : List ℕ) (kinds others : List (List ℕ)) (agent other : List ℕ) (tree twin : Node) → ReadsCity bytes kinds agent tree → ReadsCity bytes others other twin → (kinds ≡ others) × (agent ≡ other) × (tree ≡ twin) }
+    ensures once { (bytes : List ℕ) (one other : City) → ReadsCity bytes one → ReadsCity bytes other → one ≡ other }
+{}
+
+/// A moment is one arrival at most by the clocks of a zone.
+pub fn moment_is_one_arrival()
+    ensures once { (text : List ℕ) (ms : ℕ) (one other : Arrival) → IsArrival text ms one → IsArrival text ms other → one ≡ other }
+{}
+
+/// The keys of a line of a run stand in the order of their bytes, none of them twice.
+pub fn keys_of_lines_rise()
+    ensures { (line : Out) → keys_rise (out_row line) ≡ true }
 {}

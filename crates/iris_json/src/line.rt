@@ -1,16 +1,21 @@
 //! The lines of a script after the first.
-ghost use Rattle.std.specs.Prelude.{◌≡◌, ℕ, List, [], ◌∷◌, true, codes, None, Some, IfOk, IfErr, IfSome, option_map, option_and_then};
-ghost use Rattle.serde_json.specs.Data.{Num, Items, object, string};
-ghost use Rattle.serde_json.specs.Find.{get_member, as_number};
-ghost use Rattle.serde_json.specs.View.{number_view, items_view, members_view};
-ghost use Rattle.iris_json.specs.declared.line.LineWhy.{LineWhy};
-ghost use Rattle.iris_json.specs.Objects.{TextAt, has_only};
-ghost use Rattle.iris_json.specs.Lines.{IsUpdate, IsWhole, IsLine, ReadsLine, GivesLine, RefusesLinePart, RefusesValue, RefusesLine};
+ghost use Rattle.std.specs.Prelude.{◌≡◌, codes, Some, IfOk, IfErr};
+ghost use Rattle.serde_json.specs.Data.{object, string};
+ghost use Rattle.serde_json.specs.Find.{get_member};
+ghost use Rattle.serde_json.specs.View.{members_view};
+ghost use Rattle.iris_json.specs.declared.line.Line.{Line};
+ghost use Rattle.iris_json.specs.Lines.{Does, IsLine, ReadsLine, GivesLine, RefusesValue, RefusesLine};
 
-use crate::changes::read_changes;
-use crate::keys::{Members, ValueError, has_only, list_at, read_value, text_at, value_at};
-use iris_tree::{Change, MAX_NUMBER, Memory, Name, NameError, Sequence, Text, read_name};
-use serde_json::{Number, Value};
+use crate::find::Find;
+use crate::keys::{Members, ValueError, read_value, text_at};
+use crate::part::Slot::{Has, May};
+use crate::part::{
+    JsonType, agent_of, bound_of, changes_of, has_slots, id_of, name_of, text_of, whole_of,
+};
+use iris_tree::{
+    AgentId, Change, MAX_ARRIVAL, MAX_NUMBER, MAX_OFFERS, MAX_STAY, Memory, Name, NameError,
+    Sequence, Text,
+};
 use std::alloc::{AllocError, AllocFailed, Global};
 use thiserror::Error;
 
@@ -20,7 +25,12 @@ pub enum Line {
     /// A query is posted.
     Query {
         query: Text,
+        /// How old a copy may be that the answer rests on, in milliseconds, at most `MAX_NUMBER`; none
+        /// where any age will do.
+        bound: Option<u64>,
     },
+    /// A question for parking is posted.
+    Find(Find),
     /// An update of a node is posted.
     Update {
         /// The node's name, of 1 to `MAX_LABELS` labels.
@@ -31,6 +41,19 @@ pub enum Line {
         /// attribute may be `id`. An element that is put is in canonical form.
         changes: Sequence<Change>,
     },
+    /// A node gets another owner.
+    Give {
+        /// The node's name, of 1 to `MAX_LABELS` labels.
+        name: Name,
+        /// The agent that gets it.
+        to: AgentId,
+    },
+    /// An agent drops what it holds of a node.
+    Evict {
+        agent: AgentId,
+        /// The node's name, of 1 to `MAX_LABELS` labels.
+        name: Name,
+    },
     /// A query is answered from the document as it is.
     Audit {
         query: Text,
@@ -40,8 +63,22 @@ pub enum Line {
         /// In milliseconds, at most `MAX_NUMBER`.
         at: u64,
     },
+    /// One post is delivered.
+    Deliver {
+        /// Its number, from 0, at most `MAX_NUMBER`.
+        post: u64,
+    },
     /// All that is posted is delivered.
     Settle,
+    /// What is delivered for good is forgotten.
+    Forget,
+    /// The owner of a node is told.
+    Owner {
+        /// The node's name, of 1 to `MAX_LABELS` labels.
+        name: Name,
+    },
+    /// The counts of the world are told.
+    Summary,
 }
 
 /// What is wrong with a line. Of several faults the first in this order is told.
@@ -51,7 +88,8 @@ pub enum LineWhy {
     /// JSON type.
     #[error("the line is no line of a script")]
     Shape,
-    /// The text of a name is not that of a name of 1 to `MAX_LABELS` labels.
+    /// The text of a name is not that of a name of 1 to `MAX_LABELS` labels, or that of a hood or of an
+    /// agent is no id of one.
     #[error("a name in the line is not well formed")]
     Name,
     /// A number is not whole or out of its range.
@@ -78,13 +116,16 @@ pub enum LineError {
     Memory,
 }
 
+// The line is of no row.
 const SHAPE: LineError = LineError::BadLine {
     why: LineWhy::Shape,
 };
 
-const NAME: LineError = LineError::BadLine { why: LineWhy::Name };
+/// A name in the line is not well formed.
+pub const NAME: LineError = LineError::BadLine { why: LineWhy::Name };
 
-const NUMBER: LineError = LineError::BadLine {
+/// A number in the line is not in its range.
+pub const NUMBER: LineError = LineError::BadLine {
     why: LineWhy::Number,
 };
 
@@ -149,155 +190,243 @@ impl From<NameError> for LineError {
     }
 }
 
-// The number at a key; none where the key is missing or its value is no number.
-fn number_at<'a>(members: &'a Members, key: &str) -> Option<&'a Number>
-    ensures { option_map (λ n. number_view n.now) result ≡ option_and_then as_number (get_member key.now (members_view members.now.entries)) }
-{
-    value_at(members, key).and_then(Value::as_number)
-}
-
-// The whole number that a number is, from the least to the greatest.
-fn whole(number: &Number, least: u64) -> Option<u64>
-    ensures found { IfSome result (λ value. IsWhole least (number_view number.now) value) }
-    ensures missing { result ≡ None → (value : ℕ) → IsWhole least (number_view number.now) value → ⊥ }
-{
-    let value = number.as_u64()?;
-    if value < least || value > MAX_NUMBER {
-        return None;
-    }
-    Some(value)
-}
-
-// The text at the one key `query` beside `do`.
-fn read_question(alloc: Global, members: &Members) -> Result<Text, LineError>
-    ensures only { IfOk result (λ _. has_only (codes "do" ∷ codes "query" ∷ []) (object (members_view members.now.entries)) ≡ true) }
-    ensures text { IfOk result (λ text. TextAt (codes "query") (object (members_view members.now.entries)) text) }
-    ensures refused { IfErr result (RefusesLinePart LineWhy.Shape ((text : List ℕ) → has_only (codes "do" ∷ codes "query" ∷ []) (object (members_view members.now.entries)) ≡ true → TextAt (codes "query") (object (members_view members.now.entries)) text → ⊥)) }
-{
-    if !has_only(members, &["do", "query"]) {
-        return Err(SHAPE);
-    }
-    let Some(text) = text_at(members, "query") else {
-        return Err(SHAPE);
-    };
-    Ok(Text::of(alloc, text)?)
-}
-
-// What an update's line has at `name`, `no` and `change`, its keys beside `do`.
-fn update_parts<'a>(members: &'a Members) -> Option<(&'a str, &'a Number, &'a [Value])>
-    requires does { get_member (codes "do") (members_view members.now.entries) ≡ Some (string (codes "update")) }
-    ensures found { IfSome result (λ parts. IsUpdate (object (members_view members.now.entries)) parts.0.now (number_view parts.1.now) (items_view parts.2.now)) }
-    ensures missing { result ≡ None → (name : List ℕ) (n : Num) (changes : Items) → IsUpdate (object (members_view members.now.entries)) name n changes → ⊥ }
-{
-    if !has_only(members, &["do", "name", "no", "change"]) {
-        return None;
-    }
-    let name = text_at(members, "name")?;
-    let number = number_at(members, "no")?;
-    let changes = list_at(members, "change")?;
-    Some((name, number, changes))
-}
-
 // The line of a query.
 fn query_of(alloc: Global, members: &Members) -> Result<Line, LineError>
-    requires does { get_member (codes "do") (members_view members.now.entries) ≡ Some (string (codes "query")) }
-    ensures found { IfOk result (λ line. IsLine (object (members_view members.now.entries)) line) }
+    requires does { Does (codes "query") (object (members_view members.now.entries)) }
+    ensures found { IfOk result (IsLine (object (members_view members.now.entries))) }
     ensures refused { IfErr result (RefusesValue (object (members_view members.now.entries))) }
 {
-    let query = read_question(alloc, members)?;
-    Ok(Line::Query { query })
+    if !has_slots(
+        members,
+        &[Has("query", JsonType::Text), May("bound", JsonType::Number)],
+    ) {
+        return Err(SHAPE);
+    }
+    let bound = bound_of(members)?;
+    let query = Text::of(alloc, text_of(members, "query"))?;
+    Ok(Line::Query { query, bound })
 }
 
-// The line of an audit.
-fn audit_of(alloc: Global, members: &Members) -> Result<Line, LineError>
-    requires does { get_member (codes "do") (members_view members.now.entries) ≡ Some (string (codes "audit")) }
-    ensures found { IfOk result (λ line. IsLine (object (members_view members.now.entries)) line) }
+// The line of a question for parking.
+fn find_of(members: &Members) -> Result<Line, LineError>
+    requires does { Does (codes "find") (object (members_view members.now.entries)) }
+    ensures found { IfOk result (IsLine (object (members_view members.now.entries))) }
     ensures refused { IfErr result (RefusesValue (object (members_view members.now.entries))) }
 {
-    let query = read_question(alloc, members)?;
-    Ok(Line::Audit { query })
+    if !has_slots(
+        members,
+        &[
+            Has("hood", JsonType::Text),
+            Has("arrive", JsonType::Number),
+            Has("stay", JsonType::Number),
+            Has("top", JsonType::Number),
+            May("bound", JsonType::Number),
+        ],
+    ) {
+        return Err(SHAPE);
+    }
+    let hood = id_of(members, "hood")?;
+    let arrive = whole_of(members, "arrive", 0, MAX_ARRIVAL)?;
+    let stay = whole_of(members, "stay", 1, MAX_STAY as u64)?;
+    let top = whole_of(members, "top", 1, MAX_OFFERS as u64)?;
+    let bound = bound_of(members)?;
+    Ok(Line::Find(Find {
+        hood,
+        arrive,
+        stay: stay as u32,
+        top: top as u32,
+        bound,
+    }))
 }
 
 // The line of an update.
 fn update_of(alloc: Global, members: &Members) -> Result<Line, LineError>
-    requires does { get_member (codes "do") (members_view members.now.entries) ≡ Some (string (codes "update")) }
-    ensures found { IfOk result (λ line. IsLine (object (members_view members.now.entries)) line) }
+    requires does { Does (codes "update") (object (members_view members.now.entries)) }
+    ensures found { IfOk result (IsLine (object (members_view members.now.entries))) }
     ensures refused { IfErr result (RefusesValue (object (members_view members.now.entries))) }
 {
-    let Some((name, number, changes)) = update_parts(members) else {
+    if !has_slots(
+        members,
+        &[
+            Has("name", JsonType::Text),
+            Has("no", JsonType::Number),
+            Has("change", JsonType::Array),
+        ],
+    ) {
         return Err(SHAPE);
-    };
-    let name = read_name(alloc, name)?;
-    let Some(no) = whole(number, 1) else {
-        return Err(NUMBER);
-    };
-    let changes = read_changes(alloc, changes)?;
+    }
+    let name = name_of(alloc, members)?;
+    let no = whole_of(members, "no", 1, MAX_NUMBER)?;
+    let changes = changes_of(alloc, members)?;
     Ok(Line::Update { name, no, changes })
+}
+
+// The line of a move.
+fn give_of(alloc: Global, members: &Members) -> Result<Line, LineError>
+    requires does { Does (codes "give") (object (members_view members.now.entries)) }
+    ensures found { IfOk result (IsLine (object (members_view members.now.entries))) }
+    ensures refused { IfErr result (RefusesValue (object (members_view members.now.entries))) }
+{
+    if !has_slots(
+        members,
+        &[Has("name", JsonType::Text), Has("to", JsonType::Text)],
+    ) {
+        return Err(SHAPE);
+    }
+    let name = name_of(alloc, members)?;
+    let to = agent_of(members, "to")?;
+    Ok(Line::Give { name, to })
+}
+
+// The line of an eviction.
+fn evict_of(alloc: Global, members: &Members) -> Result<Line, LineError>
+    requires does { Does (codes "evict") (object (members_view members.now.entries)) }
+    ensures found { IfOk result (IsLine (object (members_view members.now.entries))) }
+    ensures refused { IfErr result (RefusesValue (object (members_view members.now.entries))) }
+{
+    if !has_slots(
+        members,
+        &[Has("agent", JsonType::Text), Has("name", JsonType::Text)],
+    ) {
+        return Err(SHAPE);
+    }
+    let agent = agent_of(members, "agent")?;
+    let name = name_of(alloc, members)?;
+    Ok(Line::Evict { agent, name })
+}
+
+// The line of an audit.
+fn audit_of(alloc: Global, members: &Members) -> Result<Line, LineError>
+    requires does { Does (codes "audit") (object (members_view members.now.entries)) }
+    ensures found { IfOk result (IsLine (object (members_view members.now.entries))) }
+    ensures refused { IfErr result (RefusesValue (object (members_view members.now.entries))) }
+{
+    if !has_slots(members, &[Has("query", JsonType::Text)]) {
+        return Err(SHAPE);
+    }
+    let query = Text::of(alloc, text_of(members, "query"))?;
+    Ok(Line::Audit { query })
 }
 
 // The line of a moment.
 fn now_of(members: &Members) -> Result<Line, LineError>
-    requires does { get_member (codes "do") (members_view members.now.entries) ≡ Some (string (codes "now")) }
-    ensures found { IfOk result (λ line. IsLine (object (members_view members.now.entries)) line) }
+    requires does { Does (codes "now") (object (members_view members.now.entries)) }
+    ensures found { IfOk result (IsLine (object (members_view members.now.entries))) }
     ensures refused { IfErr result (RefusesValue (object (members_view members.now.entries))) }
 {
-    if !has_only(members, &["do", "at"]) {
+    if !has_slots(members, &[Has("at", JsonType::Number)]) {
         return Err(SHAPE);
     }
-    let Some(number) = number_at(members, "at") else {
+    let at = whole_of(members, "at", 0, MAX_NUMBER)?;
+    Ok(Line::Now { at })
+}
+
+// The line of a delivery.
+fn deliver_of(members: &Members) -> Result<Line, LineError>
+    requires does { Does (codes "deliver") (object (members_view members.now.entries)) }
+    ensures found { IfOk result (IsLine (object (members_view members.now.entries))) }
+    ensures refused { IfErr result (RefusesValue (object (members_view members.now.entries))) }
+{
+    if !has_slots(members, &[Has("post", JsonType::Number)]) {
         return Err(SHAPE);
-    };
-    match whole(number, 0) {
-        Some(at) => Ok(Line::Now { at }),
-        None => Err(NUMBER),
     }
+    let post = whole_of(members, "post", 0, MAX_NUMBER)?;
+    Ok(Line::Deliver { post })
+}
+
+// The line of a question for an owner.
+fn owner_of(alloc: Global, members: &Members) -> Result<Line, LineError>
+    requires does { Does (codes "owner") (object (members_view members.now.entries)) }
+    ensures found { IfOk result (IsLine (object (members_view members.now.entries))) }
+    ensures refused { IfErr result (RefusesValue (object (members_view members.now.entries))) }
+{
+    if !has_slots(members, &[Has("name", JsonType::Text)]) {
+        return Err(SHAPE);
+    }
+    let name = name_of(alloc, members)?;
+    Ok(Line::Owner { name })
 }
 
 // The line of a settle.
 fn settle_of(members: &Members) -> Result<Line, LineError>
-    requires does { get_member (codes "do") (members_view members.now.entries) ≡ Some (string (codes "settle")) }
-    ensures found { IfOk result (λ line. IsLine (object (members_view members.now.entries)) line) }
+    requires does { Does (codes "settle") (object (members_view members.now.entries)) }
+    ensures found { IfOk result (IsLine (object (members_view members.now.entries))) }
     ensures refused { IfErr result (RefusesValue (object (members_view members.now.entries))) }
 {
-    if has_only(members, &["do"]) {
-        Ok(Line::Settle)
-    } else {
-        Err(SHAPE)
+    if !has_slots(members, &[]) {
+        return Err(SHAPE);
     }
+    Ok(Line::Settle)
+}
+
+// The line of a forget.
+fn forget_of(members: &Members) -> Result<Line, LineError>
+    requires does { Does (codes "forget") (object (members_view members.now.entries)) }
+    ensures found { IfOk result (IsLine (object (members_view members.now.entries))) }
+    ensures refused { IfErr result (RefusesValue (object (members_view members.now.entries))) }
+{
+    if !has_slots(members, &[]) {
+        return Err(SHAPE);
+    }
+    Ok(Line::Forget)
+}
+
+// The line of a question for the counts.
+fn summary_of(members: &Members) -> Result<Line, LineError>
+    requires does { Does (codes "summary") (object (members_view members.now.entries)) }
+    ensures found { IfOk result (IsLine (object (members_view members.now.entries))) }
+    ensures refused { IfErr result (RefusesValue (object (members_view members.now.entries))) }
+{
+    if !has_slots(members, &[]) {
+        return Err(SHAPE);
+    }
+    Ok(Line::Summary)
 }
 
 // The line that an object is.
 fn line_of(alloc: Global, members: &Members) -> Result<Line, LineError>
-    ensures found { IfOk result (λ line. IsLine (object (members_view members.now.entries)) line) }
+    ensures found { IfOk result (IsLine (object (members_view members.now.entries))) }
     ensures refused { IfErr result (RefusesValue (object (members_view members.now.entries))) }
 {
     match text_at(members, "do") {
         Some("query") => query_of(alloc, members),
+        Some("find") => find_of(members),
         Some("update") => update_of(alloc, members),
+        Some("give") => give_of(alloc, members),
+        Some("evict") => evict_of(alloc, members),
         Some("audit") => audit_of(alloc, members),
         Some("now") => now_of(members),
+        Some("deliver") => deliver_of(members),
         Some("settle") => settle_of(members),
+        Some("forget") => forget_of(members),
+        Some("owner") => owner_of(alloc, members),
+        Some("summary") => summary_of(members),
         _ => Err(SHAPE),
     }
 }
 
 /// Reads a line of a script after the first, without its LF. It is an object with the key `do` and the
-/// keys of its row, and no others:
+/// keys of its row, and no others; those in brackets may be absent:
 ///
 /// | `do` | Keys |
 /// |---|---|
-/// | `query` | `query`, a text |
+/// | `query` | `query`, a text; [`bound`, 0 to `MAX_NUMBER`] |
+/// | `find` | `hood`, an id; `arrive`, 0 to `MAX_ARRIVAL`; `stay`, 1 to `MAX_STAY`; `top`, 1 to `MAX_OFFERS`; [`bound`] |
 /// | `update` | `name`, the text of a node's name; `no`, 1 to `MAX_NUMBER`; `change`, a list of 1 to `MAX_CHANGES` changes |
-/// | `audit` | `query`, a text |
+/// | `give` | `name`; `to`, an agent's id |
+/// | `evict` | `agent`, an agent's id; `name` |
+/// | `audit` | `query` |
 /// | `now` | `at`, 0 to `MAX_NUMBER` |
-/// | `settle` | |
+/// | `deliver` | `post`, 0 to `MAX_NUMBER` |
+/// | `settle`, `forget`, `summary` | |
+/// | `owner` | `name` |
 ///
 /// A change is `["attr",name,value]`, `["drop",name]` or `["put",element]`, where the element is an
 /// object with the key `tag` and the optional keys `attrs`, `text` and `kids`, a list of such; the order
 /// of kids does not matter. `NotJson` comes where the bytes are no JSON
 /// text, and else `BadLine` with the first of the faults of `LineWhy` that the line has.
 pub fn read_line(alloc: Global, bytes: &[u8]) -> Result<Line, LineError>
-    ensures found { IfOk result (λ line. ReadsLine bytes.now line) }
+    ensures found { IfOk result (ReadsLine bytes.now) }
     ensures only { (line : Line) → ReadsLine bytes.now line → GivesLine result line }
     ensures refused { IfErr result (RefusesLine bytes.now) }
 {

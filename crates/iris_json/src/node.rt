@@ -1,14 +1,15 @@
 //! The nodes of a city line.
-ghost use Rattle.std.specs.Prelude.{◌≡◌, ◌<◌, length, IfOk};
+ghost use Rattle.std.specs.Prelude.{◌≡◌, ◌<◌, length, IfOk, IfErr};
 ghost use Rattle.std.specs.List.{find};
 ghost use Rattle.std.specs.Str.{bytes_eq};
 ghost use Rattle.serde_json.specs.Data.{object};
 ghost use Rattle.serde_json.specs.View.{view, members_view};
 ghost use Rattle.iris_base.specs.declared.name.Label.{Label};
 ghost use Rattle.iris_tree.specs.declared.local.Local.{Local};
+ghost use Rattle.iris_json.specs.declared.city.FormError.{FormError};
 ghost use Rattle.iris_tree.specs.Universe.{Node};
 ghost use Rattle.iris_json.specs.CityForm.{IsLocalForm, EachLocalForm};
-ghost use Rattle.iris_json.specs.CityLine.{LocalAt, LabelAt, OwnAt, IsNode, GivesCityPart};
+ghost use Rattle.iris_json.specs.CityKeys.{LocalAt, LabelAt, OwnAt, IsNode, GivesCityPart};
 
 use crate::city::FormError;
 use crate::keys::{Members, has_only, text_at};
@@ -24,9 +25,10 @@ fn kind_of(kinds: &[Kind], word: &str) -> Option<Kind>
     kinds.iter().copied().find(|kind| kind.as_str() == word)
 }
 
-// The label at the keys `kind` and `id`.
-fn read_label(kinds: &[Kind], members: &Members) -> Result<Label, FormError>
+/// The label at the keys `kind` and `id`.
+pub fn read_label(kinds: &[Kind], members: &Members) -> Result<Label, FormError>
     ensures found { IfOk result (λ label. LabelAt kinds.now (object (members_view members.now.entries)) label) }
+    ensures free { IfErr result (λ e. e ≡ FormError.Shape) }
     ensures only { (label : Label) → LabelAt kinds.now (object (members_view members.now.entries)) label → GivesCityPart result label }
 {
     let Some(word) = text_at(members, "kind") else {

@@ -1,14 +1,12 @@
 //! The lines of a run.
-ghost use Rattle.std.specs.Prelude.{◌≡◌, IfOk};
-ghost use Rattle.serde_json.specs.Written.{compact_text};
-ghost use Rattle.iris_json.specs.declared.out.Out.{Out};
-ghost use Rattle.iris_json.specs.Rows.{row_data, field_data};
-ghost use Rattle.iris_json.specs.Out.{why_word, which_word, post_row, told_row, refused_row, bad_query_row, answer_row, ended_row, limit_row, out_text};
+ghost use Rattle.std.specs.Prelude.{◌≡◌};
+ghost use Rattle.iris_json.specs.Out.{why_word, which_word};
 
-use crate::row::{Field, write_row};
+use crate::find::Offer;
+use crate::summary::Summary;
 use crate::word::Word;
-use iris_tree::{AgentId, Cite, Item, Mem, Memory, Sequence};
-use std::alloc::Global;
+use iris_fragment::{Level, Status};
+use iris_tree::{AgentId, Cite, Item, Name, Sequence, State};
 
 /// What is wrong with a script.
 #[derive(Clone, Copy, Debug, PartialEq, Eq)]
@@ -21,6 +19,24 @@ pub enum Why {
     NotJson,
     /// A line is not of its form.
     Shape,
+    /// The kinds of the city are none, too many or equal, or one is not well formed.
+    Kinds,
+    /// The agents of the city are none, too many or equal, or one is not well formed.
+    Agents,
+    /// The capacities of the city are not one an agent, or one of them or their sum is out of range.
+    Capacities,
+    /// A node is of no kind of the city, or its id is not well formed.
+    Label,
+    /// A node has the label of an earlier sibling.
+    Twin,
+    /// A name of an attribute is not well formed, or it is `id`.
+    Attribute,
+    /// A plain element's tag is not well formed or a kind, or it has both kids and a text.
+    Plain,
+    /// A placed name is none of a node, stands twice or is placed at no agent, or the top node is not placed.
+    Place,
+    /// The zone is no POSIX zone.
+    Zone,
     /// A name in a line is not well formed.
     Name,
     /// A number in a line is not whole or out of its range.
@@ -39,6 +55,15 @@ impl Why {
             Why::Truncated => "truncated",
             Why::NotJson => "not-json",
             Why::Shape => "shape",
+            Why::Kinds => "kinds",
+            Why::Agents => "agents",
+            Why::Capacities => "caps",
+            Why::Label => "label",
+            Why::Twin => "twin",
+            Why::Attribute => "attr",
+            Why::Plain => "plain",
+            Why::Place => "place",
+            Why::Zone => "zone",
             Why::Name => "name",
             Why::Number => "number",
             Why::Change => "change",
@@ -46,7 +71,7 @@ impl Why {
     }
 }
 
-/// A limit of a script or of its city.
+/// A limit of a script, of its city or of its run.
 #[derive(Clone, Copy, Debug, PartialEq, Eq)]
 pub enum Which {
     /// The bytes of a line without its LF, `MAX_CITY_BYTES` for the city line and `MAX_LINE_BYTES` for another.
@@ -69,6 +94,14 @@ pub enum Which {
     PlainDepth,
     /// The bytes of a node's canonical local information, `MAX_LOCAL_BYTES`.
     Local,
+    /// The posts that are kept, `MAX_POSTS`.
+    Posts,
+    /// The bytes of the posts that are kept, `MAX_POST_BYTES`.
+    PostBytes,
+    /// The entries of the book, `MAX_ENTRIES`.
+    Entries,
+    /// The bytes of the book's entries, `MAX_ENTRY_BYTES`.
+    EntryBytes,
 }
 
 impl Which {
@@ -87,6 +120,10 @@ impl Which {
             Which::Plain => "plain",
             Which::PlainDepth => "plain-depth",
             Which::Local => "local",
+            Which::Posts => "posts",
+            Which::PostBytes => "post-bytes",
+            Which::Entries => "entries",
+            Which::EntryBytes => "entry-bytes",
         }
     }
 }
@@ -111,10 +148,10 @@ pub enum QueryFault {
     },
 }
 
-/// A line of a run, without its LF. Numbers of posts and requests count from 0.
+/// A line of a run, without its LF. Numbers of posts, requests and asks count from 0.
 #[derive(Debug, Drop)]
 pub enum Out {
-    /// A query was posted to an agent.
+    /// A query, or a question for parking, was posted to an agent.
     Query {
         post: u64,
         request: u64,
@@ -126,6 +163,32 @@ pub enum Out {
         request: u64,
         to: AgentId,
     },
+    /// An agent asks another one for what it needs of a node.
+    Ask {
+        ask: u64,
+        level: Level,
+        name: Name,
+        post: u64,
+        /// How the evaluation stands at the node, in the order of states.
+        states: Sequence<State>,
+        to: AgentId,
+    },
+    /// An ask is answered to the agent that made it.
+    Reply {
+        ask: u64,
+        /// How many names it has pieces of.
+        pieces: u64,
+        post: u64,
+        to: AgentId,
+    },
+    /// A node is handed over to its new owner.
+    Handover {
+        /// How often the node had been moved, this move counted.
+        epoch: u64,
+        name: Name,
+        post: u64,
+        to: AgentId,
+    },
     /// A request was answered.
     Answer {
         /// The items, in the order of their places.
@@ -134,6 +197,16 @@ pub enum Out {
         cites: Sequence<Cite>,
         /// Whether each cited version is the newest.
         newest: bool,
+        request: u64,
+    },
+    /// A question for parking was answered.
+    Offers {
+        /// What the offers rest on, in the order of names.
+        cites: Sequence<Cite>,
+        /// Whether each cited version is the newest.
+        newest: bool,
+        /// The offers, the best first.
+        offers: Sequence<Offer>,
         request: u64,
     },
     /// An audit was answered.
@@ -147,13 +220,64 @@ pub enum Out {
         accepted: u64,
         request: u64,
     },
+    /// A move was made.
+    Gave {
+        /// How often the node has been moved, this move counted.
+        gave: u64,
+        request: u64,
+    },
+    /// A copy was dropped.
+    Evicted {
+        /// What the agent still holds of the node, `IdComplete` or `Incomplete`.
+        evicted: Status,
+        request: u64,
+    },
+    /// A settle made so many deliveries.
+    Settled {
+        settled: u64,
+    },
+    /// A forget forgot so many posts.
+    Forgot {
+        forgot: u64,
+    },
+    /// The owner of a node.
+    Owner {
+        agent: AgentId,
+        /// How often the node has been moved.
+        epoch: u64,
+        name: Name,
+    },
+    /// The counts of the world.
+    Summary(Summary),
     /// The time was not put back.
     BackInTime {
         /// The present moment, in milliseconds.
         now: u64,
     },
-    /// A request was refused: no node has the name.
+    /// A query was refused.
+    BadQuery {
+        why: QueryFault,
+        request: u64,
+    },
+    /// No node has the name.
     NoSuchNode {
+        /// The number of the request; none where the owner was asked for, which is no request.
+        request: Option<u64>,
+    },
+    /// A request was refused: it names no agent of the city.
+    NoSuchAgent {
+        request: u64,
+    },
+    /// A move was refused: the agent owns the node already.
+    SameOwner {
+        request: u64,
+    },
+    /// An eviction was refused: the agent owns the node.
+    IsOwned {
+        request: u64,
+    },
+    /// An update or a move was refused: it could not be kept.
+    Unkept {
         request: u64,
     },
     /// An update was refused: its number is not above the last of its node.
@@ -166,19 +290,41 @@ pub enum Out {
         at: u64,
         request: u64,
     },
-    /// A query was refused.
-    BadQuery {
-        why: QueryFault,
+    /// A request was refused: the node is on its way to its new owner.
+    InTransit {
+        /// How often the node has been moved, the move under way counted.
+        epoch: u64,
         request: u64,
     },
-    /// A settle made so many deliveries.
-    Settled {
-        settled: u64,
+    /// A request was refused: too many are open.
+    Busy {
+        /// The client queries that are open. Its key in the line is `open`.
+        opened: u64,
+        request: u64,
+    },
+    /// An eviction was refused: the agent holds no copy of the node.
+    NotHeld {
+        /// What it holds of the node, `IdComplete` or `Incomplete`; none where it knows nothing of it.
+        status: Option<Status>,
+        request: u64,
+    },
+    /// No post has that number.
+    NoSuchMessage {
+        /// The posts that were made.
+        posted: u64,
+    },
+    /// A question for parking was refused: the tariff of a block cannot be read.
+    BadTariff {
+        /// The block's name.
+        name: Name,
+        request: u64,
     },
     /// The last line where a line of the script, counted from 1, is at fault.
     Ended {
         line: u64,
         why: Why,
+        /// The number of the node of the city line that is at fault, from 0; none where the fault is of no node.
+        node: Option<u32>,
     },
     /// The last line where a limit is passed.
     Limit {
@@ -187,172 +333,8 @@ pub enum Out {
     },
 }
 
-// The status of a program that ends at a fault of its script.
-const BAD_SCRIPT: u64 = 3;
+/// The status of a program that ends at a fault of its script.
+pub const BAD_SCRIPT: u64 = 3;
 
-// The status of a program that ends at a limit.
-const PAST_LIMIT: u64 = 7;
-
-// The line of a post of that kind.
-fn write_post<'a>(
-    alloc: Global,
-    kind: &'a str,
-    post: u64,
-    request: u64,
-    to: &'a AgentId,
-) -> Mem<Vec<u8>>
-    ensures { IfOk result (λ text. text.items ≡ compact_text (row_data (post_row kind.now post request to.now))) }
-{
-    let row = [
-        ("kind", Field::Text(kind)),
-        ("post", Field::Number(post)),
-        ("request", Field::Number(request)),
-        ("to", Field::Text(to.as_str())),
-    ];
-    write_row(alloc, &row)
-}
-
-// The line of an answer.
-fn write_answer<'a>(
-    alloc: Global,
-    answer: &'a [Item],
-    cites: &'a [Cite],
-    newest: bool,
-    request: u64,
-) -> Mem<Vec<u8>>
-    ensures { IfOk result (λ text. text.items ≡ compact_text (row_data (answer_row answer.now cites.now newest request))) }
-{
-    let row = [
-        ("answer", Field::Items(answer)),
-        ("cites", Field::Cites(cites)),
-        ("newest", Field::Boolean(newest)),
-        ("request", Field::Number(request)),
-    ];
-    write_row(alloc, &row)
-}
-
-// The line that tells one thing of a request.
-fn write_told(alloc: Global, key: &str, told: &Field, request: u64) -> Mem<Vec<u8>>
-    ensures { IfOk result (λ text. text.items ≡ compact_text (row_data (told_row key.now (field_data told.now) request))) }
-{
-    let row = [(key, *told), ("request", Field::Number(request))];
-    write_row(alloc, &row)
-}
-
-// The line of a refused request, with the one number that tells more.
-fn write_refused(alloc: Global, key: &str, told: u64, refused: &str, request: u64) -> Mem<Vec<u8>>
-    ensures { IfOk result (λ text. text.items ≡ compact_text (row_data (refused_row key.now told refused.now request))) }
-{
-    let row = [
-        (key, Field::Number(told)),
-        ("refused", Field::Text(refused)),
-        ("request", Field::Number(request)),
-    ];
-    write_row(alloc, &row)
-}
-
-// The line of a refused query.
-fn write_bad_query(alloc: Global, why: &QueryFault, request: u64) -> Mem<Vec<u8>>
-    ensures { IfOk result (λ text. text.items ≡ compact_text (row_data (bad_query_row why.now request))) }
-{
-    let refused = ("refused", Field::Text("bad query"));
-    let request = ("request", Field::Number(request));
-    match why {
-        QueryFault::Syntax { at } => write_row(
-            alloc,
-            &[
-                ("at", Field::Number(*at)),
-                refused,
-                request,
-                ("why", Field::Text("syntax")),
-            ],
-        ),
-        QueryFault::Outside { at, what } => write_row(
-            alloc,
-            &[
-                ("at", Field::Number(*at)),
-                refused,
-                request,
-                ("what", Field::Text(what.as_str())),
-                ("why", Field::Text("outside")),
-            ],
-        ),
-        QueryFault::TooLarge { which } => write_row(
-            alloc,
-            &[
-                refused,
-                request,
-                ("which", Field::Text(which.as_str())),
-                ("why", Field::Text("too large")),
-            ],
-        ),
-    }
-}
-
-// The last line where a line of the script is at fault.
-fn write_ended(alloc: Global, line: u64, why: Why) -> Mem<Vec<u8>>
-    ensures { IfOk result (λ text. text.items ≡ compact_text (row_data (ended_row line why))) }
-{
-    let row = [
-        ("ended", Field::Number(BAD_SCRIPT)),
-        ("line", Field::Number(line)),
-        ("why", Field::Text(why.word())),
-    ];
-    write_row(alloc, &row)
-}
-
-// The last line where a limit is passed.
-fn write_limit(alloc: Global, count: u64, which: Which) -> Mem<Vec<u8>>
-    ensures { IfOk result (λ text. text.items ≡ compact_text (row_data (limit_row count which))) }
-{
-    let row = [
-        ("count", Field::Number(count)),
-        ("ended", Field::Number(PAST_LIMIT)),
-        ("which", Field::Text(which.word())),
-    ];
-    write_row(alloc, &row)
-}
-
-/// The compact text of a line, with its keys in the order of their bytes, without LF.
-pub fn write_out(alloc: Global, out: &Out) -> Mem<Vec<u8>>
-    ensures { IfOk result (λ text. text.items ≡ out_text out.now) }
-{
-    match out {
-        Out::Query { post, request, to } => write_post(alloc, "query", *post, *request, to),
-        Out::Update { post, request, to } => write_post(alloc, "update", *post, *request, to),
-        Out::Answer {
-            answer,
-            cites,
-            newest,
-            request,
-        } => write_answer(
-            alloc,
-            answer.as_slice(),
-            cites.as_slice(),
-            *newest,
-            *request,
-        ),
-        Out::Audit { audit, request } => {
-            write_told(alloc, "audit", &Field::Items(audit.as_slice()), *request)
-        }
-        Out::Accepted { accepted, request } => {
-            write_told(alloc, "accepted", &Field::Number(*accepted), *request)
-        }
-        Out::BackInTime { now } => write_row(
-            alloc,
-            &[
-                ("now", Field::Number(*now)),
-                ("refused", Field::Text("back in time")),
-            ],
-        ),
-        Out::NoSuchNode { request } => {
-            write_told(alloc, "refused", &Field::Text("no such node"), *request)
-        }
-        Out::Old { last, request } => write_refused(alloc, "last", *last, "old", *request),
-        Out::BadChange { at, request } => write_refused(alloc, "at", *at, "bad change", *request),
-        Out::BadQuery { why, request } => write_bad_query(alloc, why, *request),
-        Out::Settled { settled } => write_row(alloc, &[("settled", Field::Number(*settled))]),
-        Out::Ended { line, why } => write_ended(alloc, *line, *why),
-        Out::Limit { count, which } => write_limit(alloc, *count, *which),
-    }
-}
+/// The status of a program that ends at a limit.
+pub const PAST_LIMIT: u64 = 7;

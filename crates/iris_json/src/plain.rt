@@ -11,7 +11,7 @@ ghost use Rattle.iris_tree.specs.PlainOrder.{IsCanonicalPlain, AreCanonical};
 ghost use Rattle.iris_json.specs.Objects.{TextAt};
 ghost use Rattle.iris_json.specs.PlainForm.{AreNames, AreTexts, IsPlainForm, ArePlainForms};
 ghost use Rattle.iris_json.specs.PlainLine.{ItemsAt, AttrsAt, OwnTextAt, PlainOwnAt, IsPlain, PlainsAt};
-ghost use Rattle.iris_json.specs.CityLine.{GivesCityPart};
+ghost use Rattle.iris_json.specs.CityKeys.{GivesCityPart};
 
 use crate::city::FormError;
 use crate::keys::{Members, has_only, text_at, value_at};

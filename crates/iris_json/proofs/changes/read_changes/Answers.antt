@@ -1,29 +1,20 @@
-use Rattle.std.proofs.Common.{arith, refl}
-use Rattle.std.proofs.lemmas.Result.{err_from_is_err_and}
-use Rattle.iris_json.proofs.KindReading.{empty, not_empty}
-use Rattle.iris_json.proofs.ChangeReading.{so_start, so_step, so_found, are_len, are_each, refused_too}
+use Rattle.std.proofs.Common.{◌≡◌, Some, refl, rules}
+use Rattle.serde_json.specs.Find.{as_array}
+use Rattle.serde_json.specs.View.{view, items_view}
+use Rattle.iris_json.proofs.LineReading.{changes_found, changes_refused, changes_only, no_list}
 use Rattle.iris_json.proofs.changes.read_changes.Goals as goal
-use Rattle.iris_json.proofs.changes.read_changes.Goals.{then-is_empty-via-then-is_empty, then-is_empty-via-else-is_empty+then-items-gt-MAX_CHANGES}
 
-pub returns-then-is_empty-clause-refused : goal.returns-then-is_empty-clause-refused
-returns-then-is_empty-clause-refused c = (
-  refl,
-  λ changes are. (let len = are_len _ changes are in elim c.then-is_empty.branch [
-    | then-is_empty-via-then-is_empty w ↦ omega (arith, len.1, empty _ _ c.is_empty.ensures w.if-is_empty.true)
-    | then-is_empty-via-else-is_empty+then-items-gt-MAX_CHANGES w ↦ omega (arith, len.2, w.if-items-gt-MAX_CHANGES.true)
-  ]),
-)
+pub returns-in-Some-clause-only : goal.returns-in-Some-clause-only
+returns-in-Some-clause-only c =
+    let list : Some (items_view c.as_slice.result.now) ≡ as_array (view c.in_ok-value.value) = search (rules, c.as_slice.ensures, c.in-Some.ensures) in
+    changes_only c.args.text.now c.changes_in.result
+    (changes_found c.args.text.now _ _ c.changes_in.result (search (rules, c.in_ok-value.ensures, c.as_bytes.ensures)) list c.changes_in.ensures.found)
+    (changes_refused c.args.text.now _ _ c.changes_in.result (search (rules, c.in_ok-value.ensures, c.as_bytes.ensures)) list c.changes_in.ensures.refused)
 
-pub loop-item-init : goal.loop-item-init
-loop-item-init c = so_start c.args.items.now _ c.in_ok-changes.ensures.items
+pub returns-in-Some-clause-refused : goal.returns-in-Some-clause-refused
+returns-in-Some-clause-refused c =
+    let list : Some (items_view c.as_slice.result.now) ≡ as_array (view c.in_ok-value.value) = search (rules, c.as_slice.ensures, c.in-Some.ensures) in
+    changes_refused c.args.text.now _ _ c.changes_in.result (search (rules, c.in_ok-value.ensures, c.as_bytes.ensures)) list c.changes_in.ensures.refused
 
-pub returns-in_err-read_change-clause-refused : goal.returns-in_err-read_change-clause-refused
-returns-in_err-read_change-clause-refused c =
-    let p = err_from_is_err_and c.from_residual-in_err-read_change.result c.from_residual-in_err-read_change.ensures.1 in
-    rw (p.1, p.2) (refused_too _ _ _ _ (λ none changes are. (let here = are_each _ changes _ c.item-item.result c.loop-item-test.true c.item-item.is are in none here.0 here.1)) c.in_err-read_change.ensures.refused)
-
-pub loop-item-preserved : goal.loop-item-preserved
-loop-item-preserved c = so_step _ _ _ c.loop-item.invariant c.item-item.result c.loop-item-test.true c.item-item.is _ c.in_ok-read_change.ensures.found _ c.in_ok-push.ensures.items
-
-pub returns-clause-found : goal.returns-clause-found
-returns-clause-found c = rw c.from_vec.ensures (so_found _ _ _ c.loop-item.invariant c.loop-item-test.false (not_empty _ _ c.is_empty.ensures c.if-is_empty.false) (omega (arith, c.if-items-gt-MAX_CHANGES.false)))
+pub returns-clause-refused : goal.returns-clause-refused
+returns-clause-refused c = (refl, (view c.in_ok-value.value, search (rules, c.in_ok-value.ensures, c.as_bytes.ensures), no_list c.args.text.now (view c.in_ok-value.value) (search (rules, c.in_ok-value.ensures, c.as_bytes.ensures)) (search (rules, c.in-None.ensures, c.in-None.is))))

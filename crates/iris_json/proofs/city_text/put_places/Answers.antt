@@ -1,5 +1,5 @@
 use Rattle.std.proofs.Common.{◌≡◌, append_assoc, take, take_all}
-use Rattle.iris_json.specs.CityText.{place_data}
+use Rattle.iris_json.specs.CityKeys.{place_data}
 use Rattle.iris_json.proofs.Written.{array_written}
 use Rattle.iris_json.proofs.city_text.put_places.Goals as goal
 

@@ -1,5 +1,5 @@
 use Rattle.std.proofs.Common.{◌≡◌, ◌++◌, take}
-use Rattle.iris_json.specs.CityText.{place_data}
+use Rattle.iris_json.specs.CityKeys.{place_data}
 use Rattle.iris_json.proofs.Written.{all_tokens}
 use Rattle.iris_json.proofs.city_text.put_places.Given as goal
 

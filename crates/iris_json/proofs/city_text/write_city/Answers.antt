@@ -9,4 +9,4 @@ pub returns-clause-text : goal.returns-clause-text
 returns-clause-text c = c.into_bytes.ensures ∙ ap print (c.in_ok-put_city.ensures.text ∙ rw c.new-out.ensures refl) ∙ printed (city_data c.args.city.now)
 
 pub returns-clause-read_again : goal.returns-clause-read_again
-returns-clause-read_again c short = city_reads c.args.city.now c.in_ok-put_city.ensures.ordered _ (returns-clause-text c) short
+returns-clause-read_again c short = city_reads c.args.city.now c.in_ok-put_city.ensures.ordered c.in_ok-put_city.ensures.zone c.in_ok-put_city.ensures.utf8 _ (returns-clause-text c) short

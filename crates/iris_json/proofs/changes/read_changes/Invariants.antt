@@ -1,5 +1,0 @@
-use Rattle.iris_json.proofs.ChangeReading.{ChangesSo}
-use Rattle.iris_json.proofs.changes.read_changes.Given as goal
-
-abbrev pub invariant-loop-item : goal.invariant-loop-item
-invariant-loop-item l = ChangesSo l.items l.item-index l.changes.items
