@@ -13,7 +13,8 @@ use Rattle.iris_select.specs.declared.spot.Spot.{Spot}
 use Rattle.iris_select.specs.declared.spot.Edge.{Edge}
 use Rattle.iris_select.specs.declared.spot.Child.{Child as CodeChild}
 use Rattle.iris_select.specs.Parts.{edge_of, part_of, child_of, children, child_part, InOrder}
-use Rattle.iris_select.specs.Evaluating.{document_of, place_in, Stands, IsBack, all_conditions}
+use Rattle.iris_xpath.specs.Said.{all_conditions}
+use Rattle.iris_select.specs.Evaluating.{document_of, place_in, Stands, IsBack}
 use Rattle.iris_select.proofs.Children.{drop_one}
 use Rattle.iris_select.proofs.Siblings.{part_snoc, child_found}
 

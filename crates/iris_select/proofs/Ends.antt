@@ -19,12 +19,13 @@ use Rattle.iris_xpath.specs.declared.expression.Separator.TheVariants.{Slash, Do
 use Rattle.iris_xpath.proofs.Below.{always, above_begins, first_found}
 use Rattle.iris_xpath.proofs.Passes.{any_alike, any_map, any_filter, any_filter_map, or_false, or_assoc, some_is_any}
 use Rattle.iris_select.specs.Parts.{Child, children, child_part, part_below, places_in, InOrder}
-use Rattle.iris_select.specs.Evaluating.{attributes_in, ends_of, ends_with, all_conditions, steps_from, step_on, ends_at, ends_beyond, ends_deeper}
+use Rattle.iris_xpath.specs.Said.{all_conditions, steps_from, step_on}
+use Rattle.iris_select.specs.Evaluating.{attributes_in, ends_of, ends_with, ends_at, ends_beyond, ends_deeper}
 use Rattle.std.proofs.Common.{Bor}
 use Rattle.std.proofs.lemmas.List.{map-append}
-use Rattle.iris_select.specs.declared.value.Value.{Value as CodeValue}
-use Rattle.iris_select.specs.declared.value.Value.TheVariants as values
-use Rattle.iris_select.specs.Numbers.{value_of}
+use Rattle.iris_xpath.specs.declared.value.Value.{Value as CodeValue}
+use Rattle.iris_xpath.specs.declared.value.Value.TheVariants as values
+use Rattle.iris_xpath.specs.Values.{value_of}
 use Rattle.iris_select.specs.Walking.{is_deep}
 use Rattle.iris_select.proofs.Parts.{at_below, part_here, part_step}
 use Rattle.iris_select.proofs.Reach.{reaches_children, wanted_at, ends_step, found_at}

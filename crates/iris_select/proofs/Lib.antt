@@ -1,7 +1,6 @@
 pub mod Adding
 pub mod Back
 pub mod Children
-pub mod Digits
 pub mod Ends
 pub mod Falls
 pub mod Finding
@@ -16,6 +15,5 @@ pub mod Reach
 pub mod Siblings
 pub mod Stopping
 pub mod StoppingLooks
-pub mod Told
 pub mod Walking
 pub mod Weights

@@ -14,7 +14,8 @@ use Rattle.iris_xpath.specs.declared.expression.Step.{Step}
 use Rattle.iris_xpath.specs.declared.expression.Attribute.{Attribute}
 use Rattle.iris_xpath.proofs.Passes.{any_alike, or_false, or_assoc, and_assoc}
 use Rattle.iris_select.specs.declared.evaluator.Evaluator.{Evaluator}
-use Rattle.iris_select.specs.Evaluating.{document_of, place_in, IsBack, all_conditions}
+use Rattle.iris_xpath.specs.Said.{all_conditions}
+use Rattle.iris_select.specs.Evaluating.{document_of, place_in, IsBack}
 use Rattle.iris_select.specs.Looking.{further_looks, looks_at, looks_on, looks_deeper}
 use Rattle.iris_select.specs.Marks.{has_look, HasLooked}
 use Rattle.iris_select.specs.Parts.{Child, children, part_below, places_in, InOrder}

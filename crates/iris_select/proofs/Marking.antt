@@ -1,5 +1,5 @@
 -- Which nodes marks tell of, and their names.
-use Rattle.std.proofs.Common.{◌≡◌, ℕ, zero, suc, ◌+◌, ◌<◌, ◌≤◌, Bool, true, false, cond, ◌&&◌, ◌||◌, List, [], ◌∷◌, ◌++◌, map, filter, length, min, drop, get_or, set, refl, ap, sym, ◌∙◌, subst, append-nil, append_assoc, Option, Some, None, IsSome, MatchOption, option_and_then, arith}
+use Rattle.std.proofs.Common.{◌≡◌, ℕ, zero, suc, ◌+◌, ◌<◌, ◌≤◌, Bool, true, false, cond, ◌&&◌, ◌||◌, List, [], ◌∷◌, ◌++◌, map, filter, length, min, drop, get_or, set, Bor, refl, ap, sym, ◌∙◌, subst, append-nil, append_assoc, Option, Some, None, IsSome, MatchOption, option_and_then, arith}
 use Rattle.std.specs.List.{zip}
 use Rattle.std.specs.Ordering.{is_eq}
 use Rattle.std.proofs.lemmas.List.{map-append, length-drop, length_push}
@@ -21,7 +21,7 @@ use Rattle.iris_select.specs.declared.marks.Marks.TheViews.{out-Marks}
 use Rattle.iris_select.specs.declared.spot.Edge.TheVariants as edges
 use Rattle.iris_select.specs.declared.spot.Edge.{Edge as CodeEdge}
 use Rattle.iris_select.specs.Marks.{marked, marked_among, paths_of, IsMarked, HaveSameMarks}
-use Rattle.iris_select.specs.Parts.{place_at}
+use Rattle.iris_select.specs.Parts.{edge_of, place_at}
 
 -- ---- no marks
 
@@ -338,10 +338,10 @@ nothing_marked : (b c : Bool) → c ≡ false → b ≡ (b || c)
 nothing_marked b c h = sym (ap (λ a. b || a) h ∙ or_false b)
 
 -- no node stands at a position
-pub no_node : (n : Node) (s : Separator) (edge : CodeEdge) (path rest : List CodeEdge) (m : Marks) → path ≡ edge ∷ rest → ((l : Label) → edge ≡ edges.Label l → ⊥) → IsMarked n s (place_at path) m m
+pub no_node : (n : Node) (s : Separator) (edge : CodeEdge) (path rest : List CodeEdge) (m : Marks) → path ≡ edge ∷ rest → ((at : ℕ) (c : Bor Node) → edge ≡ edges.Node at c → ⊥) → IsMarked n s (place_at path) m m
 no_node n s (edges.Position i) path rest m is other =
     record { each = λ names some. nothing_marked _ _ (ap (λ (p : List CodeEdge). is_sought s (place_at p) (place_of names)) is ∙ not_at_node s i (place_at rest) names) }
-no_node n s (edges.Label l) path rest m is other = absurd (other l refl)
+no_node n s (edges.Node at c) path rest m is other = absurd (other at c refl)
 
 -- a step down the path
 pub sought_step : (s : Separator) (e f : Edge) (p q : Place) → is_sought s (e ∷ p) (f ∷ q) ≡ (edge_eq e f && is_sought s p q)
@@ -365,9 +365,9 @@ missing n s l place m none (k ∷ path) some =
     nothing_marked _ _ (sought_step s (label l) (label k) place (place_of path) ∙ ap (λ b. b && is_sought s place (place_of path)) (other_label n l k path (label_eq l k) refl none some))
 
 -- none stands at a label that no child has
-pub no_child : (n : Node) (s : Separator) (edge : CodeEdge) (l : Label) (path rest : List CodeEdge) (m : Marks) → path ≡ edge ∷ rest → edge ≡ edges.Label l → child_of l (children_of n) ≡ None → IsMarked n s (place_at path) m m
-no_child n s edge l path rest m is at none =
-    subst (λ (p : List CodeEdge). IsMarked n s (place_at p) m m) (sym (is ∙ ap (λ e. e ∷ rest) at)) (record { each = missing n s l (place_at rest) m none })
+pub no_child : (n : Node) (s : Separator) (edge : CodeEdge) (l : Label) (path rest : List CodeEdge) (m : Marks) → path ≡ edge ∷ rest → edge_of edge ≡ label l → child_of l (children_of n) ≡ None → IsMarked n s (place_at path) m m
+no_child n s edge l path rest m is to none =
+    subst (λ (p : Place). IsMarked n s p m m) (sym (ap place_at is ∙ ap (λ e. e ∷ place_at rest) to)) (record { each = missing n s l (place_at rest) m none })
 
 label_or_later : (n c : Node) (l : Label) (o : Option Node) (b : Bool) → label_eq (label_of n) l ≡ b → cond b (Some n) o ≡ Some c → (o ≡ Some c → label_of c ≡ l) → label_of c ≡ l
 label_or_later n c l o true e found later =
@@ -375,7 +375,8 @@ label_or_later n c l o true e found later =
     ap (λ (m : Node). label_of m) (sym it) ∙ (label_eq-Decides (label_of n) l).0 e
 label_or_later n c l o false e found later = later found
 
-child_label : (l : Label) (ns : List Node) (c : Node) → child_of l ns ≡ Some c → label_of c ≡ l
+-- a child has the label by which it is found
+pub child_label : (l : Label) (ns : List Node) (c : Node) → child_of l ns ≡ Some c → label_of c ≡ l
 child_label l [] c found = absurd (cc)
 child_label l (n ∷ ns) c found = label_or_later n c l (child_of l ns) (label_eq (label_of n) l) refl found (λ h. child_label l ns c h)
 
@@ -403,9 +404,9 @@ child_marked n c l s place old new before sub wide at own all below same within 
     ∙ ap (λ b. marked n old (k ∷ path) || b) (sym (sought_step s (label l) (label k) place (place_of path)))
 
 -- below the child with the next label
-pub marked_below : (n c : Node) (l : Label) (s : Separator) (edge : CodeEdge) (path rest : List CodeEdge) (old new before sub : Marks) (wide : List Marks) (at : ℕ) → path ≡ edge ∷ rest → edge ≡ edges.Label l
+pub marked_below : (n c : Node) (l : Label) (s : Separator) (edge : CodeEdge) (path rest : List CodeEdge) (old new before sub : Marks) (wide : List Marks) (at : ℕ) → path ≡ edge ∷ rest → edge_of edge ≡ label l
     → (out-Marks new).own ≡ (out-Marks old).own → (out-Marks new).whole ≡ (out-Marks old).whole → (out-Marks new).children.items ≡ set wide at sub → HaveSameMarks wide (out-Marks old).children.items
     → at < length (children_of n) → at < length wide → before ≡ get_or wide at before → c ≡ get_or (children_of n) at c → child_of l (children_of n) ≡ Some c → IsMarked c s (place_at rest) before sub → IsMarked n s (place_at path) old new
 marked_below n c l s edge path rest old new before sub wide at is to own all below same within also was here found deeper =
-    subst (λ (p : List CodeEdge). IsMarked n s (place_at p) old new) (sym (is ∙ ap (λ e. e ∷ rest) to))
+    subst (λ (p : Place). IsMarked n s p old new) (sym (ap place_at is ∙ ap (λ e. e ∷ place_at rest) to))
     (record { each = child_marked n c l s (place_at rest) old new before sub wide at own all below same within also was here found deeper })

@@ -178,8 +178,8 @@ pub sought_below : (document n : Node) (trail : List CodeEdge) (s : Separator) (
     → is_sought s (place_at trail) (place_of (k ∷ name)) ≡ is_sought s (place_at (drop 1 trail)) (place_of name)
 sought_below document n [] s k name there top = absurd (cc)
 sought_below document n (edges.Position i ∷ trail) s k name there top = absurd (cc)
-sought_below document n (edges.Label l ∷ trail) s k name there top =
-    top_sought document l k (place_at trail) s name (part_found (label_eq (label_of document) l) (below_node document (place_at trail)) (a_node n) there).0 top
+sought_below document n (edges.Node at c ∷ trail) s k name there top =
+    top_sought document (label_of c.now) k (place_at trail) s name (part_found (label_eq (label_of document) (label_of c.now)) (below_node document (place_at trail)) (a_node n) there).0 top
 
 -- ---- looks
 

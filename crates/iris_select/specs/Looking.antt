@@ -13,7 +13,7 @@ use Rattle.iris_xpath.specs.declared.expression.Expression.{Expression}
 use Rattle.iris_xpath.specs.declared.expression.Part.{Part as PathPart}
 use Rattle.iris_xpath.specs.declared.expression.Step.{Step}
 use Rattle.iris_xpath.specs.declared.expression.Attribute.{Attribute}
-use Rattle.iris_select.specs.Evaluating.{all_conditions, steps_from}
+use Rattle.iris_xpath.specs.Said.{all_conditions, steps_from}
 use Rattle.iris_select.specs.Walking.{is_deep, further}
 
 -- where it looks from a place that a step may reach: by the predicates, and then by the further parts

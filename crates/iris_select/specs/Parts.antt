@@ -71,7 +71,7 @@ InOrder document (a_plain p) = Unit {0}
 -- an edge
 abbrev pub edge_of : CodeEdge → Edge
 edge_of (edges.Position at) = position at
-edge_of (edges.Label l) = label l
+edge_of (edges.Node at n) = label (label_of n.now)
 
 -- the place at the end of edges from the document
 abbrev pub place_at : List CodeEdge → Place

@@ -1,6 +1,7 @@
 //! Predicates, evaluated at places of a document.
 ghost use Rattle.std.specs.Prelude.{◌≡◌, ◌∷◌, ◌++◌, [], Some, map, drop, IfOk, OnOk, MatchOption};
 ghost use Rattle.std.specs.List.{list_any, filter_map};
+ghost use Rattle.iris_xpath.specs.Said.{all_conditions, steps_from, operand_side, step_on};
 ghost use Rattle.iris_xpath.specs.Syntax.{condition_of, end_of};
 ghost use Rattle.iris_xpath.specs.Meaning.{of_text, compare, holds, any_holds, all_hold, ends, values};
 ghost use Rattle.iris_xpath.specs.Places.{attribute_of};
@@ -9,16 +10,15 @@ ghost use Rattle.iris_base.specs.Attribute.{is_id};
 ghost use Rattle.iris_xpath.specs.Looks.{full, extent_of, looks_from, attribute_looks, all_look, each_look, condition_looks, side_looks, ends_look};
 ghost use Rattle.iris_select.specs.Looking.{looks_at, looks_on, looks_deeper};
 ghost use Rattle.iris_select.specs.Marks.{HasLooked};
-ghost use Rattle.iris_select.specs.Numbers.{value_of};
+ghost use Rattle.iris_xpath.specs.Values.{value_of};
 ghost use Rattle.iris_select.specs.Parts.{edge_of, part_of};
-ghost use Rattle.iris_select.specs.Evaluating.{document_of, place_in, Stands, IsBack, ends_of, HasMore, attributes_in, all_conditions, steps_from, operand_side, step_on, ends_deeper, ends_at, ends_with};
+ghost use Rattle.iris_select.specs.Evaluating.{document_of, place_in, Stands, IsBack, ends_of, HasMore, attributes_in, ends_deeper, ends_at, ends_with};
 
 use crate::marks::Marks;
 use crate::spot::{Edge, Spot};
-use crate::value::Value;
 use iris_tree::{Mem, Memory, Name, Sequence, Tree, is_id};
 use iris_xpath::{
-    Attribute, Comparison, Expression, NameTest, Operand, Part, Path, Separator, Step,
+    Attribute, Expression, NameTest, Operand, Part, Path, Separator, Step, Value, some_compare,
 };
 use std::alloc::Global;
 
@@ -29,7 +29,7 @@ pub struct Evaluator<'a> {
     /// The top node.
     pub top: &'a Tree,
     /// The edges from the document to the place in hand.
-    pub trail: Vec<Edge>,
+    pub trail: Vec<Edge<'a>>,
     /// The nodes looked into, from the top node on.
     pub marks: Marks,
 }
@@ -69,28 +69,28 @@ fn add_attributes<'a>(
 }
 
 // The edges from the top node on, of those from the document.
-fn below_top(trail: &[Edge]) -> &[Edge]
+fn below_top<'a, 't>(trail: &'t [Edge<'a>]) -> &'t [Edge<'a>]
     ensures { result.now ≡ drop 1 trail.now }
 {
-    match trail.split_first() {
-        Some((_, below)) => below,
-        None => trail,
+    if trail.is_empty() {
+        return trail;
     }
+    &trail[1..]
 }
 
 impl<'a> Evaluator<'a> {
     /// Goes to a place right below the one in hand.
-    pub fn enter(&mut self, edge: Edge) -> Mem<()>
+    pub fn enter(&mut self, edge: Edge<'a>) -> Mem<()>
         ensures document { OnOk result (self.new.top ≡ self.old.top) }
         ensures marks { OnOk result (self.new.marks ≡ self.old.marks) }
-        ensures trail { OnOk result (self.new.trail.items ≡ self.old.trail.items ++ edge ∷ []) }
+        ensures trail { OnOk result (self.new.trail.items ≡ self.old.trail.items ++ edge.entry ∷ []) }
     {
         self.trail.push(edge)?;
         Ok(())
     }
 
     /// Goes back to the place right above.
-    pub fn leave(&mut self) -> Option<Edge>
+    pub fn leave(&mut self) -> Option<Edge<'a>>
         ensures document { self.new.top ≡ self.old.top }
         ensures marks { self.new.marks ≡ self.old.marks }
         ensures trail { MatchOption result ((self.old.trail.items ≡ []) × (self.new.trail.items ≡ [])) (λ last. self.old.trail.items ≡ self.new.trail.items ++ last ∷ []) }
@@ -386,28 +386,4 @@ fn texts<'a>(alloc: Global, found: Vec<Option<&'a str>>) -> Mem<Vec<Value<'a>>>
         }
     }
     Ok(values)
-}
-
-// Whether a value and some of these compare so.
-fn compares_some(comparison: Comparison, value: Value, values: &[Value]) -> bool
-    ensures { result ≡ list_any (compare comparison (value_of value.entry)) (map value_of values.now) }
-{
-    for other in values {
-        if value.compares(comparison, *other) {
-            return true;
-        }
-    }
-    false
-}
-
-// Whether some value of the one side and some of the other compare so.
-fn some_compare(comparison: Comparison, left: &[Value], right: &[Value]) -> bool
-    ensures { result ≡ list_any (λ u. list_any (compare comparison u) (map value_of right.now)) (map value_of left.now) }
-{
-    for value in left {
-        if compares_some(comparison, *value, right) {
-            return true;
-        }
-    }
-    false
 }

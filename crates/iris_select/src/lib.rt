@@ -4,13 +4,10 @@
 mod evaluation;
 mod evaluator;
 mod items;
+mod labels;
 mod marks;
-mod number;
 mod place;
 mod spot;
-#[cfg(test)]
-mod tests;
-mod value;
 mod walk;
 
 pub use evaluation::{Evaluation, ItemEvaluation, evaluate, evaluate_items, select};

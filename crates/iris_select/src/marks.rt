@@ -1,15 +1,14 @@
 //! Which nodes of a document an evaluation looked into.
-ghost use Rattle.std.specs.Prelude.{◌≡◌, ◌<◌, ◌≤◌, ◌∷◌, ◌++◌, false, List, map, filter, length, slice_index_or, None, Some, IfOk, IfErr, OnOk};
-ghost use Rattle.std.specs.List.Sorted.{IsStrictlySortedBy};
+ghost use Rattle.std.specs.Prelude.{◌≡◌, ◌<◌, ◌∷◌, ◌++◌, false, List, map, filter, length, IfOk, OnOk};
 ghost use Rattle.iris_base.specs.declared.name.Label.{Label};
-ghost use Rattle.iris_base.specs.NameOrder.{label_cmp};
-ghost use Rattle.iris_tree.specs.Universe.{Node, label_of, labels_of, child_of};
+ghost use Rattle.iris_tree.specs.Universe.{Node, label_of};
 ghost use Rattle.iris_xpath.specs.Walk.{names_from};
 ghost use Rattle.iris_select.specs.Parts.{place_at};
 ghost use Rattle.iris_select.specs.Marks.{marked, paths_of, IsMarked, HaveSameMarks};
 
+use crate::labels::position;
 use crate::spot::Edge;
-use iris_tree::{Label, Mem, Name, Tree};
+use iris_tree::{Mem, Name, Tree};
 use iris_xpath::Separator;
 use std::alloc::Global;
 
@@ -22,15 +21,6 @@ pub struct Marks {
     whole: bool,
     // The marks of the first children; all further ones have none.
     children: Vec<Marks>,
-}
-
-// Where the node with that label stands among siblings.
-fn search(siblings: &[Tree], label: &Label) -> Result<usize, usize>
-    requires { IsStrictlySortedBy label_cmp (labels_of siblings.now) }
-    ensures found { IfOk result (λ at. (at < length siblings.now) × ((d : Node) → child_of label.now siblings.now ≡ Some (slice_index_or siblings.now at d))) }
-    ensures absent { IfErr result (λ at. child_of label.now siblings.now ≡ None) }
-{
-    siblings.binary_search_by(|node| node.label().cmp(label))
 }
 
 // Gives the first siblings, up to one of them, marks to be set.
@@ -88,10 +78,10 @@ impl Marks {
             }
             return Ok(());
         };
-        let Edge::Label(label) = edge else {
+        let Edge::Node { at, node: below } = edge else {
             return Ok(());
         };
-        let Ok(at) = search(node.children(), label) else {
+        let Some(at) = position(node.children(), below.label(), *at) else {
             return Ok(());
         };
         widen(&mut self.children, alloc, at)?;

@@ -2,19 +2,24 @@
 ghost use Rattle.std.specs.Prelude.{◌≡◌, ◌<◌, Some, None, length, option_map, option_and_then, slice_get, IfSome, map};
 ghost use Rattle.iris_tree.specs.Universe.{Node, node_at};
 ghost use Rattle.iris_tree.specs.Document.{part_at_place};
+ghost use Rattle.iris_tree.specs.Document as edges;
 ghost use Rattle.iris_xpath.specs.Places.{attribute_of};
 ghost use Rattle.iris_xpath.specs.Meaning.{passes, value_of};
-ghost use Rattle.iris_select.specs.Parts.{edge_of, place_at, part_of, children, children_in, child_of, child_part, InOrder};
+ghost use Rattle.iris_select.specs.Parts.{edge_of, place_at, part_of, children, children_in, child_of, child_part, node_child, InOrder};
 
+use crate::labels::search;
 use iris_tree::{Label, Plain, Tree, is_id};
 use iris_xpath::NameTest;
 use std::slice;
 
-/// An edge down: to a plain element by its position among its siblings, or to a node by its label.
+/// An edge down.
 #[derive(Clone, Copy)]
-pub enum Edge {
+pub enum Edge<'a> {
+    /// To the plain element at that position among its siblings.
     Position(usize),
-    Label(Label),
+    /// To a node, by its label. Where it stands among its siblings is told by `at` in most cases, and no
+    /// contract rests on that.
+    Node { at: usize, node: &'a Tree },
 }
 
 /// What stands at a place.
@@ -28,7 +33,7 @@ pub enum Spot<'a> {
 /// What stands right below a place, and the edge to it.
 #[derive(Clone, Copy)]
 pub struct Child<'a> {
-    pub edge: Edge,
+    pub edge: Edge<'a>,
     pub spot: Spot<'a>,
 }
 
@@ -64,11 +69,17 @@ impl<'a> Children<'a> {
         if place >= nodes.len() {
             unreachable!()
         }
-        let node = &nodes[place];
-        Child {
-            edge: Edge::Label(*node.label()),
-            spot: Spot::Node(node),
-        }
+        node_at(&nodes[place], place)
+    }
+}
+
+// A node that stands right below, at that position.
+fn node_at<'a>(node: &'a Tree, at: usize) -> Child<'a>
+    ensures { child_of result ≡ node_child node.now }
+{
+    Child {
+        edge: Edge::Node { at, node },
+        spot: Spot::Node(node),
     }
 }
 
@@ -103,21 +114,46 @@ impl<'a> Spot<'a> {
         ensures { option_map part_of result ≡ child_part top.now (part_of self.entry) (edge_of edge.now) }
     {
         match (self, edge) {
-            (Spot::Document, Edge::Label(label)) => {
-                if *top.label() == *label {
+            (Spot::Document, Edge::Node { node, .. }) => {
+                if *top.label() == *node.label() {
                     Some(Spot::Node(top))
                 } else {
                     None
                 }
             }
-            (Spot::Node(node), Edge::Label(label)) => Some(Spot::Node(node.child(label)?)),
+            (Spot::Node(above), Edge::Node { node, .. }) => {
+                Some(Spot::Node(above.child(node.label())?))
+            }
             (Spot::Node(node), Edge::Position(at)) => {
                 Some(Spot::Plain(node.local().plain.as_slice().get(*at)?))
             }
             (Spot::Plain(plain), Edge::Position(at)) => {
                 Some(Spot::Plain(plain.kids.as_slice().get(*at)?))
             }
-            (Spot::Document, Edge::Position(_)) | (Spot::Plain(_), Edge::Label(_)) => None,
+            (Spot::Document, Edge::Position(_)) | (Spot::Plain(_), Edge::Node { .. }) => None,
+        }
+    }
+
+    /// The node with that label right below, and the edge to it.
+    pub fn node_child(self, top: &'a Tree, label: &Label) -> Option<Child<'a>>
+        ensures part { option_map (λ child. part_of child.spot) result ≡ child_part top.now (part_of self.entry) (edges.label label.now) }
+        ensures edge { IfSome result (λ child. edge_of child.edge ≡ edges.label label.now) }
+    {
+        match self {
+            Spot::Document => {
+                if *top.label() != *label {
+                    return None;
+                }
+                Some(node_at(top, 0))
+            }
+            Spot::Node(node) => {
+                let siblings = node.children();
+                match search(siblings, label) {
+                    Ok(at) => Some(node_at(&siblings[at], at)),
+                    Err(_) => None,
+                }
+            }
+            Spot::Plain(_) => None,
         }
     }
 

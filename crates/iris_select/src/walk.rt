@@ -7,7 +7,8 @@ ghost use Rattle.iris_tree.specs.Items.{items_at};
 ghost use Rattle.iris_xpath.specs.Syntax.{main_of};
 ghost use Rattle.iris_xpath.specs.Meaning.{passes, fits, selected};
 ghost use Rattle.iris_xpath.specs.Looks.{extent_of, looks_from, all_look, whole_looks, full_names};
-ghost use Rattle.iris_select.specs.Evaluating.{document_of, place_in, Stands, IsBack, all_conditions};
+ghost use Rattle.iris_xpath.specs.Said.{all_conditions};
+ghost use Rattle.iris_select.specs.Evaluating.{document_of, place_in, Stands, IsBack};
 ghost use Rattle.iris_select.specs.Marks.{HasLooked};
 ghost use Rattle.iris_select.specs.Parts.{child, edge_of, part_of, part_below, place_at};
 ghost use Rattle.iris_select.specs.Places.{edges_of};
@@ -95,7 +96,7 @@ fn place_of(alloc: Global, trail: &[Edge]) -> Mem<Place>
     let mut path = Sequence::new(alloc);
     for edge in trail {
         match edge {
-            Edge::Label(label) => name.push(*label)?,
+            Edge::Node { node, .. } => name.push(*node.label())?,
             Edge::Position(at) => {
                 let Ok(position) = u32::try_from(*at) else {
                     return Err(Memory);
@@ -199,9 +200,8 @@ impl<'a> Walker<'a> {
             return Ok(());
         }
         if let Some(label) = self.only_child(pending) {
-            let edge = Edge::Label(label);
-            return match spot.child(self.evaluator.top, &edge) {
-                Some(below) => self.visit(edge, below, pending),
+            return match spot.node_child(self.evaluator.top, &label) {
+                Some(child) => self.visit(child.edge, child.spot, pending),
                 None => Ok(()),
             };
         }
@@ -215,13 +215,13 @@ impl<'a> Walker<'a> {
 
     // Goes on with the pending steps at a place right below the one in hand.
     #[cycle(walking)]
-    fn visit(&mut self, edge: Edge, spot: Spot<'a>, pending: &[bool]) -> Mem<()>
+    fn visit(&mut self, edge: Edge<'a>, spot: Spot<'a>, pending: &[bool]) -> Mem<()>
         requires ordered { IsOrdered (document_of self.old.evaluator) }
         requires there { part_at_place (document_of self.old.evaluator) (place_in self.old.evaluator ++ edge_of edge ∷ []) ≡ Some (part_of spot) }
         ensures steps { OnOk result (self.new.steps ≡ self.old.steps) }
         ensures back { OnOk result (IsBack self.old.evaluator self.new.evaluator) }
-        ensures found { OnOk result (Adds (document_of self.old.evaluator) self.old.selected.items self.new.selected.items (found_at (document_of self.old.evaluator) (main_steps self.old.steps.now) pending.now (place_in self.old.evaluator) (child (edge_of edge) (part_of spot.entry)))) }
-        ensures looks { OnOk result (HasLooked self.old.evaluator self.new.evaluator (λ looks. looks_found_at (document_of self.old.evaluator) looks (main_steps self.old.steps.now) pending.now (place_in self.old.evaluator) (child (edge_of edge) (part_of spot.entry)))) }
+        ensures found { OnOk result (Adds (document_of self.old.evaluator) self.old.selected.items self.new.selected.items (found_at (document_of self.old.evaluator) (main_steps self.old.steps.now) pending.now (place_in self.old.evaluator) (child (edge_of edge.entry) (part_of spot.entry)))) }
+        ensures looks { OnOk result (HasLooked self.old.evaluator self.new.evaluator (λ looks. looks_found_at (document_of self.old.evaluator) looks (main_steps self.old.steps.now) pending.now (place_in self.old.evaluator) (child (edge_of edge.entry) (part_of spot.entry)))) }
     {
         self.evaluator.enter(edge)?;
         let further = self.take(spot, pending, false)?;
@@ -251,6 +251,7 @@ pub fn walk<'a>(alloc: Global, tree: &'a Tree, query: &'a Query) -> Mem<Found<'a
     ensures full { IfOk result (λ found. found.full.items ≡ full_names tree.now query.now) }
 {
     let steps = query.steps();
+    // What it ensures of the order of siblings is what the meaning rests on.
     let _ordered = tree.children();
     let mut walker = Walker {
         evaluator: Evaluator {

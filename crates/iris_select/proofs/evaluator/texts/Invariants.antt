@@ -1,7 +1,7 @@
 use Rattle.std.proofs.Common.{◌≡◌, map}
 use Rattle.std.specs.List.{filter_map}
 use Rattle.iris_xpath.specs.Meaning.{of_text}
-use Rattle.iris_select.specs.Numbers.{value_of}
+use Rattle.iris_xpath.specs.Values.{value_of}
 use Rattle.iris_select.specs.Evaluating.{ends_of}
 use Rattle.iris_select.proofs.evaluator.texts.Given as goal
 

@@ -13,10 +13,11 @@ use Rattle.iris_xpath.specs.declared.expression.Separator.{Separator}
 use Rattle.iris_xpath.specs.Syntax.{Condition, condition_of, parent}
 use Rattle.iris_xpath.specs.Same.{HaveSame}
 use Rattle.iris_xpath.specs.Meaning.{ends, values, holds, compare}
-use Rattle.iris_select.specs.declared.value.Value.{Value as CodeValue}
-use Rattle.iris_select.specs.Numbers.{value_of}
+use Rattle.iris_xpath.specs.declared.value.Value.{Value as CodeValue}
+use Rattle.iris_xpath.specs.Values.{value_of}
 use Rattle.iris_select.specs.Parts.{Child, edge_of, part_of, child_of, children}
-use Rattle.iris_select.specs.Evaluating.{document_of, place_in, IsBack, ends_of, all_conditions, steps_from, step_on, operand_side, ends_at, ends_beyond, ends_deeper}
+use Rattle.iris_xpath.specs.Said.{all_conditions, steps_from, step_on, operand_side}
+use Rattle.iris_select.specs.Evaluating.{document_of, place_in, IsBack, ends_of, ends_at, ends_beyond, ends_deeper}
 use Rattle.iris_select.proofs.Back.{place_below, stands_still, back_same, below_same, child_stands, left_again}
 use Rattle.iris_select.proofs.Ends.{parent_looks, stands_above, step_children, parent_ends, child_gives, some_by_length, texts_same, some_same, compared_same}
 use Rattle.iris_select.proofs.Falls.{smaller_first, lower_then, lower_alone}
@@ -28,8 +29,9 @@ use Rattle.iris_select.specs.Marks.{HasLooked}
 use Rattle.iris_select.proofs.Looked.{looked_as, looked_then, looked_around, left_fewer, left_none, looks_below, one_looks, none_looks, on_children, child_looked}
 use Rattle.iris_select.proofs.More.{one_gone, none_gone, all_gone}
 use Rattle.iris_select.proofs.Siblings.{child_found}
-use Rattle.iris_select.proofs.Told.{path_told, compare_told}
-use Rattle.iris_select.proofs.Weights.{rank, one_weight, weight, weights, side_weight, steps_weight, part_smaller, child_smaller}
+use Rattle.iris_xpath.proofs.Said.{path_told, compare_told}
+use Rattle.iris_xpath.proofs.Weights.{one_weight, weight, weights, side_weight, steps_weight}
+use Rattle.iris_select.proofs.Weights.{rank, part_smaller, child_smaller}
 use Rattle.iris_select.proofs.Reach.{found_at}
 use Rattle.iris_select.proofs.evaluator.Evaluator.+evaluating.Goals as goal
 use Rattle.iris_select.proofs.evaluator.Evaluator.+evaluating.Goals.{follow-in-Some-find+in_ok-follow-in-Parent, follow-in_default-find}

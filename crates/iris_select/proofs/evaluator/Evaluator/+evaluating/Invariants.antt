@@ -3,12 +3,14 @@ use Rattle.std.specs.List.{list_any}
 use Rattle.iris_tree.specs.Document.{places}
 use Rattle.iris_xpath.specs.Syntax.{condition_of}
 use Rattle.iris_xpath.specs.Meaning.{all_hold, any_holds}
-use Rattle.iris_select.specs.Evaluating.{document_of, place_in, IsBack, ends_of, all_conditions, steps_from, operand_side, step_on}
+use Rattle.iris_xpath.specs.Said.{all_conditions, steps_from, operand_side, step_on}
+use Rattle.iris_select.specs.Evaluating.{document_of, place_in, IsBack, ends_of}
 use Rattle.iris_select.specs.Parts.{part_of, children}
 use Rattle.iris_xpath.specs.Looks.{all_look, each_look}
 use Rattle.iris_select.proofs.Looked.{HasLeft, looks_below}
 use Rattle.iris_select.proofs.Reach.{found_at}
-use Rattle.iris_select.proofs.Weights.{weight, weights, side_weight, steps_weight, size_in, rank}
+use Rattle.iris_xpath.proofs.Weights.{weight, weights, side_weight, steps_weight}
+use Rattle.iris_select.proofs.Weights.{size_in, rank}
 use Rattle.iris_select.proofs.evaluator.Evaluator.+evaluating.Given as goal
 
 abbrev pub decreases-all_hold : goal.decreases-all_hold

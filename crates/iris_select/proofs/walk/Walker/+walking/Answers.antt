@@ -2,7 +2,7 @@ use Rattle.std.proofs.Common.{◌≡◌, ◌||◌, ℕ, ◌+◌, ◌*◌, ◌<�
 use Rattle.std.specs.List.{flat_map}
 use Rattle.std.proofs.lemmas.Result.{on_ok_weaker}
 use Rattle.iris_tree.specs.Universe.{Node}
-use Rattle.iris_tree.specs.Document.{whole, label}
+use Rattle.iris_tree.specs.Document.{whole, label, part_at_place}
 use Rattle.iris_xpath.specs.declared.expression.Expression.{Expression}
 use Rattle.iris_xpath.specs.declared.expression.Step.{Step}
 use Rattle.iris_select.specs.declared.walk.Selected.{Selected}
@@ -32,22 +32,24 @@ descend-visit-requires t c =
     let e = c.args.self.now.evaluator in
     let part = part_of c.args.spot in
     let ordered = order_at (document_of e) whole (place_in e) part c.requires.stands.in_order c.requires.stands.there in
-    let below : child_part (document_of e) part (label c.in-Some.label) ≡ Some (part_of c.in-Some-child.below) = sym c.in-Some-child.ensures in (
-      omega (arith, c.decreases, edge_smaller (document_of e) part (part_of c.in-Some-child.below) (label c.in-Some.label) ordered below),
-      (c.requires.stands.in_order, part_snoc (document_of e) whole part (place_in e) (label c.in-Some.label) c.requires.stands.there ∙ below),
+    let it = c.in-Some-node_child.child in
+    let below : child_part (document_of e) part (label c.in-Some.label) ≡ Some (part_of it.spot) = sym c.in-Some-node_child.ensures.part in (
+      omega (arith, c.decreases, edge_smaller (document_of e) part (part_of it.spot) (label c.in-Some.label) ordered below),
+      (c.requires.stands.in_order, ap (λ x. part_at_place (document_of e) (place_in e ++ x ∷ [])) c.in-Some-node_child.ensures.edge ∙ part_snoc (document_of e) whole part (place_in e) (label c.in-Some.label) c.requires.stands.there ∙ below),
     )
 
-pub descend-returns-in-Some-child-clause-found : goal.descend-returns-in-Some-child-clause-found
-descend-returns-in-Some-child-clause-found t c =
+pub descend-returns-in-Some-node_child-clause-found : goal.descend-returns-in-Some-node_child-clause-found
+descend-returns-in-Some-node_child-clause-found t c =
     let e = c.args.self.now.evaluator in
     let steps = main_steps c.args.self.now.steps.now in
     let part = part_of c.args.spot in
     let l = c.in-Some.label in
     let ordered = order_at (document_of e) whole (place_in e) part c.requires.stands.in_order c.requires.stands.there in
     let f = found_at (document_of e) steps c.args.pending.now (place_in e) in
+    let it = c.in-Some-node_child.child in
     on_ok_weaker c.visit.result
-    (adds_as (document_of e) c.args.self.now.selected.items c.visit.new.self.selected.items (f (child (label l) (part_of c.in-Some-child.below))) (found_below (document_of e) steps c.args.pending.now (place_in e) part)
-    (sym (found_only (document_of e) steps c.args.pending.now (place_in e) part l ordered c.in-Some.ensures.steps ∙ ap (found_by f l) (sym c.in-Some-child.ensures))))
+    (adds_as (document_of e) c.args.self.now.selected.items c.visit.new.self.selected.items (f (child (edge_of it.edge) (part_of it.spot))) (found_below (document_of e) steps c.args.pending.now (place_in e) part)
+    (ap (λ x. f (child x (part_of it.spot))) c.in-Some-node_child.ensures.edge ∙ sym (found_only (document_of e) steps c.args.pending.now (place_in e) part l ordered c.in-Some.ensures.steps ∙ ap (found_by f l) (sym c.in-Some-node_child.ensures.part))))
     c.visit.ensures.found
 
 pub descend-returns-in-None-clause-found : goal.descend-returns-in-None-clause-found
@@ -60,7 +62,7 @@ descend-returns-in-None-clause-found t c =
     let ordered = order_at (document_of e) whole (place_in e) part c.requires.stands.in_order c.requires.stands.there in
     let f = found_at (document_of e) steps c.args.pending.now (place_in e) in
     adds_as (document_of e) all all [] (found_below (document_of e) steps c.args.pending.now (place_in e) part)
-    (sym (found_only (document_of e) steps c.args.pending.now (place_in e) part l ordered c.in-Some.ensures.steps ∙ ap (found_by f l) (sym c.in-None.ensures))) (adds_nothing (document_of e) all)
+    (sym (found_only (document_of e) steps c.args.pending.now (place_in e) part l ordered c.in-Some.ensures.steps ∙ ap (found_by f l) (sym c.in-None.ensures.part))) (adds_nothing (document_of e) all)
 
 pub descend-visit-requires-in-loop-at : goal.descend-visit-requires-in-loop-at
 descend-visit-requires-in-loop-at t c =
@@ -127,10 +129,10 @@ descend-returns-in-None-clause-looks t c =
     let l = c.in-Some.label in
     let ordered = order_at (document_of e) whole (place_in e) part c.requires.stands.in_order c.requires.stands.there in
     looked_none e e _ refl refl
-    (λ looks. looks_only (document_of e) looks steps c.args.pending.now (place_in e) part l ordered c.in-Some.ensures.steps c.in-Some.ensures.looks ∙ ap (looks_found_by (document_of e) looks steps c.args.pending.now (place_in e) l) (sym c.in-None.ensures))
+    (λ looks. looks_only (document_of e) looks steps c.args.pending.now (place_in e) part l ordered c.in-Some.ensures.steps c.in-Some.ensures.looks ∙ ap (looks_found_by (document_of e) looks steps c.args.pending.now (place_in e) l) (sym c.in-None.ensures.part))
 
-pub descend-returns-in-Some-child-clause-looks : goal.descend-returns-in-Some-child-clause-looks
-descend-returns-in-Some-child-clause-looks t c =
+pub descend-returns-in-Some-node_child-clause-looks : goal.descend-returns-in-Some-node_child-clause-looks
+descend-returns-in-Some-node_child-clause-looks t c =
     let e = c.args.self.now.evaluator in
     let steps = main_steps c.args.self.now.steps.now in
     let part = part_of c.args.spot in
@@ -138,7 +140,8 @@ descend-returns-in-Some-child-clause-looks t c =
     let ordered = order_at (document_of e) whole (place_in e) part c.requires.stands.in_order c.requires.stands.there in
     on_ok_weaker c.visit.result
     (looked_as e c.visit.new.self.evaluator _ _
-    (λ looks. sym (looks_only (document_of e) looks steps c.args.pending.now (place_in e) part l ordered c.in-Some.ensures.steps c.in-Some.ensures.looks ∙ ap (looks_found_by (document_of e) looks steps c.args.pending.now (place_in e) l) (sym c.in-Some-child.ensures))))
+    (λ looks. ap (λ x. looks_found_at (document_of e) looks steps c.args.pending.now (place_in e) (child x (part_of c.in-Some-node_child.child.spot))) c.in-Some-node_child.ensures.edge
+    ∙ sym (looks_only (document_of e) looks steps c.args.pending.now (place_in e) part l ordered c.in-Some.ensures.steps c.in-Some.ensures.looks ∙ ap (looks_found_by (document_of e) looks steps c.args.pending.now (place_in e) l) (sym c.in-Some-node_child.ensures.part))))
     c.visit.ensures.looks
 
 pub visit-returns-clause-looks : goal.visit-returns-clause-looks

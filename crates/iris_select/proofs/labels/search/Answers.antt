@@ -3,7 +3,7 @@ use Rattle.std.proofs.lemmas.Fn.{always_returns_same}
 use Rattle.iris_base.specs.NameOrder.{label_cmp}
 use Rattle.iris_tree.specs.Universe.{label_of}
 use Rattle.iris_tree.proofs.Siblings.{searched}
-use Rattle.iris_select.proofs.marks.search.Goals as goal
+use Rattle.iris_select.proofs.labels.search.Goals as goal
 
 middle : (r : Result ℕ ℕ) (A B C : ℕ → Type 0) → IfErr r (λ at. A at × B at × C at) → IfErr r B
 middle (Ok at) A B C h = tt
