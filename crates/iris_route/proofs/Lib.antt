@@ -1,0 +1,6 @@
+pub mod Beginning
+pub mod Lawful
+pub mod Longest
+pub mod Starting
+pub mod Through
+pub mod TitleMaps
