@@ -1,0 +1,5 @@
+pub mod Offers
+pub mod Price
+pub mod Question
+pub mod Ranked
+pub mod Tariff
