@@ -13,7 +13,7 @@ use Rattle.iris_xpath.specs.Places.{is_above, element_at, element_paths, IsEleme
 use Rattle.iris_xpath.specs.Meaning.{attribute_at, from_here}
 use Rattle.iris_xpath.specs.declared.expression.Separator.{Separator}
 use Rattle.iris_xpath.specs.declared.expression.Separator.TheVariants.{Slash, DoubleSlash}
-use Rattle.iris_need.specs.declared.need.State.{State}
+use Rattle.iris_base.specs.declared.state.State.{State}
 use Rattle.iris_need.specs.Program.{gather, join, Spot, document_spot, node_spot, element_spot, room, Marks, some_end, element_ends, see_attribute, attributes_from, own_attribute, attributes}
 use Rattle.iris_base.specs.Attribute.{is_id}
 use Rattle.iris_need.specs.Run.{Run, give, eval, ids_in}

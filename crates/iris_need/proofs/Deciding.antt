@@ -134,7 +134,8 @@ seen_alike ids more None b e h m = absurd (cc)
 seen_alike ids more (Some a) None e h m = absurd h
 seen_alike ids more (Some a) (Some b) e h m = λ i. Some (record { ids = sym e i; local = sym h i })
 
-met_alike : (l : Level) (d o : Option Known) → KnownBelow d o → meets_known l d ≡ true → IsAlike l o d
+-- what is met is known the same where more is known
+pub met_alike : (l : Level) (d o : Option Known) → KnownBelow d o → meets_known l d ≡ true → IsAlike l o d
 met_alike l None o h m = absurd (cc)
 met_alike l (Some a) None h m = absurd h
 met_alike level.Ids (Some a) (Some b) h m = ap (λ (ids : List Label). Some ids) (sym h.0)

@@ -11,8 +11,8 @@ use Rattle.iris_xpath.specs.Syntax.{Syntax, Condition, any_of, all_of, not_so, s
 use Rattle.iris_fragment.specs.declared.piece.Level.{Level}
 use Rattle.iris_fragment.specs.declared.piece.Level.TheVariants.{Ids, Full}
 use Rattle.iris_tree.specs.declared.item.Item.{Item}
-use Rattle.iris_need.specs.declared.need.State.{State}
-use Rattle.iris_need.specs.declared.need.State.TheVariants as states
+use Rattle.iris_base.specs.declared.state.State.{State}
+use Rattle.iris_base.specs.declared.state.State.TheVariants as states
 use Rattle.iris_need.specs.declared.need.Start.{Start}
 use Rattle.iris_need.specs.Run.{Run, give, see_ids, see_full, both, next}
 use Rattle.iris_need.specs.Program.{each, join, gather, where_so, and_so, Spot, document_spot, node_spot, element_spot, room, last_label, without_last, spot_of, above_name, above_element, spots_above, step_elements, Marks, passes_label, go_from, go_to, from_node, reach, see_attribute, attributes_from, own_attribute, attributes, ends, values, holds, any_holds, each_holds, all_hold, subtree, found, tested, tested_at, goes, go_at, seek_at, test_at, enter, own_look, program_from, program}

@@ -75,7 +75,8 @@ AllStand document name no_nodes levels = Unit {0}
 AllStand document name (nodes n ns) zero = ⊥
 AllStand document name (nodes n ns) (suc levels) = Stands document (name ++ label_of n ∷ []) n levels × AllStand document name ns (suc levels)
 
-child_at : (document : Node) (name : List Label) (l : Label) (n : Node) → node_at document name ≡ Some n → node_at document (name ++ l ∷ []) ≡ child_of l (children_of n)
+-- the node at a name with one label more
+pub child_at : (document : Node) (name : List Label) (l : Label) (n : Node) → node_at document name ≡ Some n → node_at document (name ++ l ∷ []) ≡ child_of l (children_of n)
 child_at document [] l n h = absurd (cc)
 child_at document (a ∷ name) l n h = node_last document a name l ∙ ap (option_and_then (λ p. child_of l (children_of p))) h
 

@@ -18,8 +18,8 @@ use Rattle.iris_xpath.specs.declared.expression.NameTest.{NameTest}
 use Rattle.iris_xpath.specs.declared.expression.NameTest.TheVariants.{Any, Kind, Tag}
 use Rattle.iris_xpath.specs.declared.expression.Separator.{Separator}
 use Rattle.iris_xpath.specs.declared.expression.Separator.TheVariants.{Slash, DoubleSlash}
-use Rattle.iris_need.specs.declared.need.State.{State}
-use Rattle.iris_need.specs.declared.need.State.TheVariants as states
+use Rattle.iris_base.specs.declared.state.State.{State}
+use Rattle.iris_base.specs.declared.state.State.TheVariants as states
 use Rattle.iris_need.specs.Documents.{IsDocument}
 use Rattle.iris_tree.specs.Items.{item_of, item_at, items_at}
 use Rattle.iris_need.specs.Needs.{from_document}
@@ -192,7 +192,8 @@ each_below document name levels same (nodes c cs) h =
     ap (λ (n : Node). n ∷ eval document (each (λ child. subtree levels child (name ++ child ∷ [])) (labels_of (list_of cs)))) (same c (name ++ label_of c ∷ []) h.0)
     ∙ ap (λ (ns : List Node). c ∷ ns) (each_below document name levels same cs h.1)
 
-none_below : (document : Node) (name : List Label) (below : Nodes) → AllStand document name below zero → no_nodes ≡ below
+-- at the last level there is no node below
+pub none_below : (document : Node) (name : List Label) (below : Nodes) → AllStand document name below zero → no_nodes ≡ below
 none_below document name no_nodes h = refl
 none_below document name (nodes c cs) h = absurd h
 

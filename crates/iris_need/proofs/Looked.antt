@@ -12,8 +12,8 @@ use Rattle.iris_xpath.specs.Syntax.{Syntax, Condition, any_of, all_of, not_so, s
 use Rattle.iris_xpath.specs.declared.expression.Separator.{Separator}
 use Rattle.iris_xpath.specs.declared.expression.Separator.TheVariants.{Slash, DoubleSlash}
 use Rattle.iris_need.specs.declared.need.Need.{Need}
-use Rattle.iris_need.specs.declared.need.State.{State}
-use Rattle.iris_need.specs.declared.need.State.TheVariants as states
+use Rattle.iris_base.specs.declared.state.State.{State}
+use Rattle.iris_base.specs.declared.state.State.TheVariants as states
 use Rattle.iris_need.specs.Documents.{IsDocument}
 use Rattle.iris_need.specs.Needs.{from_document, extent_of_level}
 use Rattle.iris_need.specs.Needs as needs

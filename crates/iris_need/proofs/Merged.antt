@@ -1,5 +1,5 @@
 -- Looks merged by name: each need stands for a look, and each name is there once.
-use Rattle.std.proofs.Common.{◌≡◌, List, [], ◌∷◌, fold, All, refl, ap, subst, ◌∙◌}
+use Rattle.std.proofs.Common.{◌≡◌, List, [], ◌∷◌, map, filter, fold, All, refl, ap, subst, ◌∙◌}
 use Rattle.std.specs.List.{AllByRecursion}
 use Rattle.std.specs.List.Sorted.{IsStrictlySortedBy}
 use Rattle.std.specs.Cmp.Lexicographic.{slice_cmp}
@@ -14,7 +14,11 @@ use Rattle.iris_fragment.specs.declared.piece.Level.TheVariants.{Ids, Full}
 use Rattle.iris_fragment.proofs.Names.{name_exact}
 use Rattle.iris_need.specs.declared.need.Need.{Need}
 use Rattle.iris_need.specs.Laws.{need_cmp, AreOrderedNeeds}
-use Rattle.iris_need.specs.Needs.{greater, put_look, with_look, merged}
+use Rattle.iris_xpath.specs.Syntax.{Syntax}
+use Rattle.iris_need.specs.declared.need.Start.{Start}
+use Rattle.iris_need.specs.Needs.{greater, put_look, with_look, merged, seen_from, looks, without_states, support_of}
+use Rattle.iris_need.specs.Pieces.{Pieces, view_of}
+use Rattle.iris_need.specs.Run.{meets}
 
 -- ---- what is so of the name and the level of each look is so of each need
 
@@ -104,3 +108,7 @@ fold_ordered (look ∷ looks) needs h = fold_ordered looks (with_look needs look
 pub merged_ordered : (looks : List Need) → AreOrderedNeeds (merged looks)
 unfolding IsStrictlySortedBy
 merged_ordered looks = fold_ordered looks [] tt
+
+-- what an evaluation rests on stands in the order of names
+pub support_ordered : (query : Syntax) (start : Start) (view : Pieces) → AreOrderedNeeds (support_of query start view)
+support_ordered query start view = merged_ordered (map without_states (filter (meets (seen_from start.name (view_of view))) (looks query start (view_of view))))

@@ -6,7 +6,7 @@ use Rattle.iris_tree.specs.Document.{Place, part_at_place, places}
 use Rattle.iris_xpath.specs.Meaning.{is_reached, passes, fits, step_to, steps_to, selected}
 use Rattle.iris_xpath.specs.Meaning as meaning
 use Rattle.iris_xpath.specs.Syntax.{Syntax, MainStep, main_of}
-use Rattle.iris_need.specs.declared.need.State.TheVariants as states
+use Rattle.iris_base.specs.declared.state.State.TheVariants as states
 use Rattle.iris_need.specs.Program.{Spot, document_spot, tested, tested_at, all_hold}
 use Rattle.iris_need.specs.Run.{Run, give, eval}
 use Rattle.iris_need.specs.Found.{goes_then, reached_places}

@@ -19,7 +19,7 @@ use Rattle.iris_fragment.specs.declared.piece.Piece.{Piece}
 use Rattle.iris_fragment.proofs.Names.{name_exact, equal_from_is_eq}
 use Rattle.iris_fragment.specs.declared.piece.Level.{Level}
 use Rattle.iris_need.specs.declared.need.Need.{Need}
-use Rattle.iris_need.specs.declared.need.State.{State}
+use Rattle.iris_base.specs.declared.state.State.{State}
 use Rattle.iris_need.specs.declared.needs.Asked.{Asked}
 use Rattle.iris_need.specs.Pieces.{Pieces, AreNamed, piece_at, pieces_in, piece_cmp, AreOrderedPieces, joined_pieces, with_piece}
 use Rattle.iris_need.specs.Needs.{greater, with_state, with_look}

@@ -11,8 +11,8 @@ use Rattle.iris_xpath.specs.declared.expression.NameTest.TheVariants.{Any, Kind,
 use Rattle.iris_xpath.specs.declared.expression.Separator.{Separator}
 use Rattle.iris_xpath.specs.declared.expression.Separator.TheVariants.{Slash, DoubleSlash}
 use Rattle.iris_need.specs.declared.need.Need.{Need}
-use Rattle.iris_need.specs.declared.need.State.{State}
-use Rattle.iris_need.specs.declared.need.State.TheVariants as states
+use Rattle.iris_base.specs.declared.state.State.{State}
+use Rattle.iris_base.specs.declared.state.State.TheVariants as states
 use Rattle.iris_need.specs.Needs.{from_document}
 use Rattle.iris_need.specs.Program.{gather, where_so, Spot, document_spot, node_spot, element_spot, room, step_elements, Marks, passes_label, go_from, go_to, from_node, reach, found, tested, tested_at, all_hold, goes, go_at, program}
 use Rattle.iris_need.specs.Run.{Run, View, Out, Seen, give, run, pair_value, after_ids, after_full, after, ids_known, full_known}

@@ -4,7 +4,7 @@ use Rattle.std.proofs.lemmas.List.{take-append-drop}
 use Rattle.std.proofs.Math.Seq.{take-suc}
 use Rattle.std.specs.List.{insert}
 use Rattle.std.specs.declared.cmp.Ordering.TheVariants.{Less, Equal, Greater}
-use Rattle.iris_need.specs.declared.need.State.{State}
+use Rattle.iris_base.specs.declared.state.State.{State}
 use Rattle.iris_need.specs.Needs.{state_cmp, with_state}
 
 -- the states with one more, as far as they were compared

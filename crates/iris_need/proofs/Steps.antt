@@ -15,7 +15,7 @@ use Rattle.iris_xpath.specs.declared.expression.NameTest.{NameTest}
 use Rattle.iris_xpath.specs.declared.expression.NameTest.TheVariants.{Any, Kind, Tag}
 use Rattle.iris_xpath.specs.declared.expression.Separator.{Separator}
 use Rattle.iris_xpath.specs.declared.expression.Separator.TheVariants.{Slash, DoubleSlash}
-use Rattle.iris_need.specs.declared.need.State.{State}
+use Rattle.iris_base.specs.declared.state.State.{State}
 use Rattle.iris_need.specs.Documents.{IsDocument}
 use Rattle.iris_need.specs.Program.{gather, where_so, Spot, document_spot, node_spot, element_spot, room, step_elements, Marks, passes_label, go_from, go_to, from_node, reach}
 use Rattle.iris_xpath.specs.Places.{element_at, element_paths, IsElementPath}

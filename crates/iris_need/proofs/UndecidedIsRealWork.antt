@@ -80,7 +80,8 @@ pub not_false : (b : Bool) → not b ≡ false → b ≡ true
 not_false true e = refl
 not_false false e = absurd (cc)
 
-all_met : (query : Syntax) (top : Label) (view : Pieces) → missing_of query (from_document top) view ≡ [] → AllMet (view_of view) (looks query (from_document top) (view_of view))
+-- every look is met
+pub all_met : (query : Syntax) (top : Label) (view : Pieces) → missing_of query (from_document top) view ≡ [] → AllMet (view_of view) (looks query (from_document top) (view_of view))
 all_met query top view none look h = not_false (meets (view_of view) look)
     (none_pass (is_missing (from_document top) (view_of view)) (looks query (from_document top) (view_of view)) (merged_empty _ none) look h)
 

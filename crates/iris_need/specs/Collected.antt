@@ -1,20 +1,15 @@
 -- Looks as they are collected one after another: the unmet ones, or those that are met.
-use Rattle.std.specs.Prelude.{ℕ, ◌+◌, Bool, not, ◌&&◌, if◌then◌else◌, List, [], ◌∷◌, ◌++◌, map, fold, Option, option_map, option_and_then}
-use Rattle.std.specs.Str.{bytes_eq}
+use Rattle.std.specs.Prelude.{Bool, not, ◌&&◌, if◌then◌else◌, List, map, fold, Option, option_map, option_and_then}
 use Rattle.iris_base.specs.declared.name.Label.{Label}
 use Rattle.iris_fragment.specs.declared.piece.Full.{Full}
 use Rattle.iris_fragment.specs.declared.piece.Piece.{Piece}
-use Rattle.iris_tree.specs.declared.item.Item.{Item}
-use Rattle.iris_xpath.specs.Thin.{Main}
 use Rattle.iris_need.specs.declared.need.Need.{Need}
 use Rattle.iris_need.specs.declared.needs.Asked.{Asked}
-use Rattle.iris_need.specs.declared.walk.Looks.{Looks}
-use Rattle.iris_need.specs.declared.walk.Looks.TheVariants.{Unmet, Met}
+use Rattle.iris_need.specs.declared.looks.Looks.{Looks}
+use Rattle.iris_need.specs.declared.looks.Looks.TheVariants.{Unmet, Met}
 use Rattle.iris_need.specs.Pieces.{Pieces, piece_at, view_of}
 use Rattle.iris_need.specs.Needs.{with_look, without_states, is_under, seen_from}
 use Rattle.iris_need.specs.Run.{View, Run, run, Seen, meets}
-use Rattle.iris_need.specs.Program.{where_so, last_label}
-use Rattle.iris_need.specs.ThinProgram.{thin_tested, thin_goes}
 
 -- ---- as the code holds them
 
@@ -57,14 +52,3 @@ full_of piece = option_map (full_in piece) piece.full
 -- the ids and the local information at a name, where both are known
 abbrev pub full_at : Pieces → List Label → Option Seen
 full_at pieces name = option_and_then full_of (piece_at pieces name)
-
--- ---- the steps of a walk
-
--- a step at a child: its label is tested, then the predicates, and then the further steps go on
-abbrev pub visited : ℕ → Main → List Main → List Label → Label → Run (List Item)
-visited i m ms name child = where_so (bytes_eq child.kind m.kind) (thin_tested i m (name ++ child ∷ []) child (thin_goes (i + 1) ms (name ++ child ∷ []) child))
-
--- the last label of a name, as far as it has one
-abbrev pub bottom : Label → List Label → Label
-bottom top [] = top
-bottom top (l ∷ name) = last_label l name

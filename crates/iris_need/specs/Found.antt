@@ -4,7 +4,7 @@ use Rattle.iris_base.specs.declared.name.Label.{Label}
 use Rattle.iris_tree.specs.Universe.{Node, label_of}
 use Rattle.iris_tree.specs.Document.{Place}
 use Rattle.iris_xpath.specs.Syntax.{Syntax, MainStep, main_of}
-use Rattle.iris_need.specs.declared.need.State.TheVariants as states
+use Rattle.iris_base.specs.declared.state.State.TheVariants as states
 use Rattle.iris_need.specs.Program.{Spot, document_spot, reach, tested}
 use Rattle.iris_need.specs.Run.{Run, give, eval}
 use Rattle.iris_need.specs.Spots.{place_at}

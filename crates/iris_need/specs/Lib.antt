@@ -1,10 +1,10 @@
 pub mod Alike
-pub mod Answers
 pub mod Collected
 pub mod Decided
 pub mod Descents
 pub mod Documents
 pub mod Found
+pub mod HeldParts
 pub mod Laws
 pub mod Needs
 pub mod Pieces
@@ -12,5 +12,4 @@ pub mod Placed
 pub mod Program
 pub mod Run
 pub mod Spots
-pub mod Starts
-pub mod ThinProgram
+pub mod Walk

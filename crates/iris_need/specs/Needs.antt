@@ -14,8 +14,8 @@ use Rattle.iris_xpath.specs.Looks.{Extent, ids, full}
 use Rattle.iris_xpath.specs.Syntax.{Syntax}
 use Rattle.iris_need.specs.declared.need.Need.{Need}
 use Rattle.iris_need.specs.declared.need.Start.{Start}
-use Rattle.iris_need.specs.declared.need.State.{State}
-use Rattle.iris_need.specs.declared.need.State.TheVariants as states
+use Rattle.iris_base.specs.declared.state.State.{State}
+use Rattle.iris_base.specs.declared.state.State.TheVariants as states
 use Rattle.iris_need.specs.Pieces.{Pieces, view_of}
 use Rattle.iris_need.specs.Program.{program}
 use Rattle.iris_need.specs.Run.{View, Out, run, meets, all_of}

@@ -23,8 +23,8 @@ use Rattle.iris_xpath.specs.Syntax.{Syntax, Condition, any_of, all_of, not_so, s
 use Rattle.iris_xpath.specs.Meaning.{Value, of_text, of_number, compare, has_some, is_reached, passes, front, attribute_at}
 use Rattle.iris_xpath.specs.Meaning as meaning
 use Rattle.iris_xpath.specs.Places.{is_above, element_at, element_paths}
-use Rattle.iris_need.specs.declared.need.State.{State}
-use Rattle.iris_need.specs.declared.need.State.TheVariants as states
+use Rattle.iris_base.specs.declared.state.State.{State}
+use Rattle.iris_base.specs.declared.state.State.TheVariants as states
 use Rattle.iris_need.specs.declared.need.Start.{Start}
 use Rattle.iris_need.specs.Run.{Run, give, see_ids, see_full, both, next}
 

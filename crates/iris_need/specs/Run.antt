@@ -7,7 +7,7 @@ use Rattle.iris_tree.specs.Universe.{Node, local_of, ids_of, node_at}
 use Rattle.iris_fragment.specs.declared.piece.Level.{Level}
 use Rattle.iris_fragment.specs.declared.piece.Level.TheVariants.{Ids, Full}
 use Rattle.iris_need.specs.declared.need.Need.{Need}
-use Rattle.iris_need.specs.declared.need.State.{State}
+use Rattle.iris_base.specs.declared.state.State.{State}
 
 -- what is known of a node: its ids, and its local information where that is known
 pub record Known : Type 0 where

@@ -1,115 +1,109 @@
 //! What an evaluation from a start lacks, and what it rests on.
-ghost use Rattle.std.specs.Prelude.{◌≡◌, [], true, drop, IfOk, OnOk};
-ghost use Rattle.iris_fragment.specs.declared.piece.Level.{Level};
-ghost use Rattle.iris_xpath.specs.ThinQuery.{is_thin, thin_of};
-ghost use Rattle.iris_need.specs.Needs.{is_under, missing_of, support_of};
-ghost use Rattle.iris_need.specs.Program.{gather, own_look, program};
-ghost use Rattle.iris_need.specs.ThinProgram.{thin_enter, thin_from};
-ghost use Rattle.iris_need.specs.Starts.{steps_entered, top_tests, top_enter};
+ghost use Rattle.std.specs.Prelude.{◌≡◌, ◌≤◌, length, map, IfOk, OnOk};
+ghost use Rattle.iris_base.specs.declared.limits.TheConstants.{MAX_STEPS};
+ghost use Rattle.iris_xpath.specs.Syntax.{main_of};
+ghost use Rattle.iris_need.specs.Needs.{missing_of, support_of};
+ghost use Rattle.std.specs.Prelude.{[], drop};
 ghost use Rattle.iris_need.specs.Collected.{collected};
+ghost use Rattle.iris_need.specs.Program.{gather, own_look, enter, test_at, spot_of, program};
+ghost use Rattle.iris_need.specs.Walk.{Adds, spot_in, steps_entered};
 
-use crate::need::{Need, Start, State};
+use crate::looks::{Looks, Marks};
+use crate::need::{Need, Start};
 use crate::needs::Needs;
+use crate::route::Route;
+use crate::spot::Spot;
 use crate::view::View;
-use crate::walk::{Looks, Walk};
+use crate::walk::Walk;
 use iris_fragment::Level;
-use iris_tree::{Label, Mem, Name};
-use iris_xpath::Query;
+use iris_tree::{Mem, Name, State};
+use iris_xpath::{Expression, Query, Step};
 use std::alloc::Global;
 
 impl<'a> Walk<'a> {
-    // Takes the step of that number from a node, with the state that was asked for.
-    fn resume_step(&self, state: State, i: u32, name: &mut Name, needs: &mut Needs) -> Mem<()>
-        requires under { is_under name.old self.now.above.now ≡ true }
-        ensures looks { OnOk result (needs.new ≡ collected self.now.takes self.now.above.now self.now.view.now needs.old (steps_entered state i (drop i (thin_of self.now.steps.now)) name.old)) }
-        ensures name { OnOk result (name.new ≡ name.old) }
-    {
-        match self.route_at(i) {
-            Some(route) => self.take_step(state, &route, name, needs),
-            None => Ok(()),
-        }
-    }
-
-    // Goes on at a node as a state says.
-    fn resume_state(
+    // Takes the step of that number from a place, with the state that was asked for.
+    fn resume_step(
         &self,
+        steps: &[Step<Expression>],
+        number: u32,
         state: State,
-        label: &Label,
+        spot: &Spot,
         name: &mut Name,
         needs: &mut Needs,
     ) -> Mem<()>
-        requires under { is_under name.old self.now.above.now ≡ true }
-        ensures looks { OnOk result (needs.new ≡ collected self.now.takes self.now.above.now self.now.view.now needs.old (thin_enter (thin_of self.now.steps.now) name.old label.now state)) }
+        requires few { length steps.now ≤ MAX_STEPS }
         ensures name { OnOk result (name.new ≡ name.old) }
+        ensures adds { OnOk result (Adds self.now needs.old needs.new (steps_entered self.now.top state number (drop number (map main_of steps.now)) (spot_in name.old spot.now))) }
     {
-        match state {
-            State::At(i) => self.resume_step(state, i, name, needs),
-            State::Seek(i) => self.resume_step(state, i, name, needs),
-            State::Test(i) => match self.route_at(i) {
-                Some(route) => self.test_node(&route, *label, name, needs),
-                None => Ok(()),
-            },
-            State::Whole => self.whole(*label, name, needs),
-        }
-    }
-
-    // Takes the step of that number from the document to the top node.
-    fn step_from_document(&self, top: Label, i: u32, name: &mut Name, needs: &mut Needs) -> Mem<()>
-        requires document { name.old ≡ [] }
-        requires everything { self.now.above.now ≡ [] }
-        ensures looks { OnOk result (needs.new ≡ collected self.now.takes self.now.above.now self.now.view.now needs.old (thin_from top i (drop i (thin_of self.now.steps.now)))) }
-        ensures name { OnOk result (name.new ≡ name.old) }
-    {
-        match self.route_at(i) {
-            Some(route) => self.step_to_child(&route, top, name, needs),
-            None => Ok(()),
-        }
-    }
-
-    // Tests the predicates of the step of that number at the document, where none holds, and goes on.
-    fn test_document(&self, top: Label, i: u32, name: &mut Name, needs: &mut Needs) -> Mem<()>
-        requires document { name.old ≡ [] }
-        requires everything { self.now.above.now ≡ [] }
-        ensures looks { OnOk result (needs.new ≡ collected self.now.takes self.now.above.now self.now.view.now needs.old (top_tests top i (drop i (thin_of self.now.steps.now)))) }
-        ensures name { OnOk result (name.new ≡ name.old) }
-    {
-        let Some(route) = self.route_at(i) else {
+        let Some(route) = Route::at(steps, number) else {
             return Ok(());
         };
-        if !route.step.predicates.is_empty() {
-            return Ok(());
-        }
-        let Some(next) = route.next() else {
-            return Ok(());
-        };
-        self.step_to_child(&next, top, name, needs)
+        self.go(&route, &Marks::Each(state), spot, name, needs)
     }
 
-    // Goes on at the document as a state says.
-    fn resume_at_document(
+    // Tests a place by the step of that number, and goes on from it.
+    fn resume_test(
         &self,
-        state: State,
-        top: &Label,
+        steps: &[Step<Expression>],
+        number: u32,
+        spot: &Spot,
         name: &mut Name,
         needs: &mut Needs,
     ) -> Mem<()>
-        requires document { name.old ≡ [] }
-        requires everything { self.now.above.now ≡ [] }
-        ensures looks { OnOk result (needs.new ≡ collected self.now.takes self.now.above.now self.now.view.now needs.old (top_enter top.now (thin_of self.now.steps.now) state)) }
+        requires few { length steps.now ≤ MAX_STEPS }
         ensures name { OnOk result (name.new ≡ name.old) }
+        ensures adds { OnOk result (Adds self.now needs.old needs.new (test_at self.now.top number (drop number (map main_of steps.now)) (spot_in name.old spot.now))) }
+    {
+        let Some(route) = Route::at(steps, number) else {
+            return Ok(());
+        };
+        self.test(&route, spot, name, needs)
+    }
+
+    // Goes on at a place as a state says.
+    fn resume(
+        &self,
+        steps: &[Step<Expression>],
+        state: State,
+        spot: &Spot,
+        name: &mut Name,
+        needs: &mut Needs,
+    ) -> Mem<()>
+        requires few { length steps.now ≤ MAX_STEPS }
+        ensures name { OnOk result (name.new ≡ name.old) }
+        ensures adds { OnOk result (Adds self.now needs.old needs.new (enter self.now.top (map main_of steps.now) (spot_in name.old spot.now) state)) }
     {
         match state {
-            State::At(i) => self.step_from_document(*top, i, name, needs),
-            State::Seek(i) => self.step_from_document(*top, i, name, needs),
-            State::Test(i) => self.test_document(*top, i, name, needs),
-            State::Whole => Ok(()),
+            State::At(i) => self.resume_step(steps, i, state, spot, name, needs),
+            State::Seek(i) => self.resume_step(steps, i, state, spot, name, needs),
+            State::Test(i) => self.resume_test(steps, i, spot, name, needs),
+            State::Whole => { self.whole(spot, name, needs) }
         }
+    }
+
+    // Goes on at the document or at a node as each state of a start says.
+    fn resume_all(
+        &self,
+        steps: &[Step<Expression>],
+        states: &[State],
+        name: &mut Name,
+        needs: &mut Needs,
+    ) -> Mem<()>
+        requires few { length steps.now ≤ MAX_STEPS }
+        ensures { OnOk result (Adds self.now needs.old needs.new (gather (enter self.now.top (map main_of steps.now) (spot_of name.old)) states.now)) }
+    {
+        let spot = Spot::of(name);
+        // The proof of borrows is to be told that a spot may hold local information.
+        let _local = spot.local();
+        for state in states {
+            self.resume(steps, *state, &spot, name, needs)?;
+        }
+        Ok(())
     }
 
     // Looks at the start's own node.
     fn look_at_start(&self, name: &Name, level: Level, needs: &mut Needs) -> Mem<()>
-        requires under { is_under name.now self.now.above.now ≡ true }
-        ensures { OnOk result (needs.new ≡ collected self.now.takes self.now.above.now self.now.view.now needs.old (own_look name.now level)) }
+        ensures { OnOk result (Adds self.now needs.old needs.new (own_look name.now level)) }
     {
         match level {
             Level::Ids => {
@@ -122,86 +116,56 @@ impl<'a> Walk<'a> {
         Ok(())
     }
 
-    // Goes on at the document as each state of a start says.
-    fn resume_all_at_document(
-        &self,
-        states: &[State],
-        top: &Label,
-        name: &mut Name,
-        needs: &mut Needs,
-    ) -> Mem<()>
-        requires document { name.old ≡ [] }
-        requires everything { self.now.above.now ≡ [] }
-        ensures { OnOk result (needs.new ≡ collected self.now.takes self.now.above.now self.now.view.now needs.old (gather (top_enter top.now (thin_of self.now.steps.now)) states.now)) }
+    // Evaluates a query from a start.
+    fn evaluate(&self, query: &Query, start: &Start, needs: &mut Needs) -> Mem<()>
+        requires top { self.now.top ≡ start.now.top }
+        ensures { OnOk result (Adds self.now needs.old needs.new (program query.now start.now)) }
     {
-        for state in states {
-            self.resume_at_document(*state, top, name, needs)?;
-        }
-        Ok(())
-    }
-
-    // Goes on at a node as each state of a start says.
-    fn resume_all(
-        &self,
-        states: &[State],
-        label: &Label,
-        name: &mut Name,
-        needs: &mut Needs,
-    ) -> Mem<()>
-        requires under { is_under name.old self.now.above.now ≡ true }
-        ensures { OnOk result (needs.new ≡ collected self.now.takes self.now.above.now self.now.view.now needs.old (gather (thin_enter (thin_of self.now.steps.now) name.old label.now) states.now)) }
-    {
-        for state in states {
-            self.resume_state(*state, label, name, needs)?;
-        }
-        Ok(())
-    }
-
-    // Evaluates from a start.
-    fn evaluate(&self, start: &Start, needs: &mut Needs) -> Mem<()>
-        requires above { self.now.above.now ≡ start.now.name }
-        ensures { OnOk result (needs.new ≡ collected self.now.takes self.now.above.now self.now.view.now needs.old (program self.now.steps.now start.now)) }
-    {
+        let steps = query.steps();
         let states = start.states.as_slice();
         let mut name = start.name.copy()?;
-        let Some((label, _)) = start.name.as_slice().split_last() else {
-            return self.resume_all_at_document(states, &start.top, &mut name, needs);
-        };
+        if name.is_document() {
+            return self.resume_all(steps, states, &mut name, needs);
+        }
         self.look_at_start(&name, start.level, needs)?;
-        self.resume_all(states, label, &mut name, needs)
+        self.resume_all(steps, states, &mut name, needs)
     }
+}
+
+// The looks of an evaluation from a start.
+fn looks_of(
+    alloc: Global,
+    query: &Query,
+    start: &Start,
+    view: &View,
+    takes: Looks,
+) -> Mem<Vec<Need>>
+    ensures { IfOk result (λ needs. needs.items ≡ collected takes start.now.name view.now [] (program query.now start.now)) }
+{
+    let mut needs = Needs::new(alloc);
+    let walk = Walk {
+        alloc,
+        view,
+        top: start.top,
+        above: &start.name,
+        takes,
+    };
+    walk.evaluate(query, start, &mut needs)?;
+    needs.into_vec()
 }
 
 /// What an evaluation from a start lacks: of each look that the view doesn't meet the name, the level and
 /// the states, merged by name.
 pub fn missing(alloc: Global, query: &Query, start: &Start, view: &View) -> Mem<Vec<Need>>
-    requires thin { is_thin query.now ≡ true }
     ensures { IfOk result (λ needs. needs.items ≡ missing_of query.now start.now view.now) }
 {
-    let mut needs = Needs::new(alloc);
-    let walk = Walk {
-        view,
-        steps: query.steps(),
-        above: &start.name,
-        takes: Looks::Unmet,
-    };
-    walk.evaluate(start, &mut needs)?;
-    needs.into_vec()
+    looks_of(alloc, query, start, view, Looks::Unmet)
 }
 
 /// What an evaluation from a start rests on: of each look that the view meets the name and the level,
 /// merged by name.
 pub fn support(alloc: Global, query: &Query, start: &Start, view: &View) -> Mem<Vec<Need>>
-    requires thin { is_thin query.now ≡ true }
     ensures { IfOk result (λ needs. needs.items ≡ support_of query.now start.now view.now) }
 {
-    let mut needs = Needs::new(alloc);
-    let walk = Walk {
-        view,
-        steps: query.steps(),
-        above: &start.name,
-        takes: Looks::Met,
-    };
-    walk.evaluate(start, &mut needs)?;
-    needs.into_vec()
+    looks_of(alloc, query, start, view, Looks::Met)
 }

@@ -3,20 +3,28 @@
 #![tactic(auto)]
 
 mod answer;
+mod conditions;
+mod elements;
+mod ends;
 mod evaluate;
+mod further;
+mod held;
 mod laws;
 mod look_laws;
+mod looks;
 mod meaning_laws;
 mod need;
 mod needs;
+mod reach;
 mod route;
-#[cfg(test)]
-mod tests;
+mod spot;
 mod view;
 mod walk;
+mod whole;
 
 pub use answer::answer_of;
 pub use evaluate::{missing, support};
+pub use iris_tree::State;
 pub use laws::{
     answer_is_determined, missing_lies, needs_are_ordered, support_has_full_names,
     undecided_is_real_work,
@@ -29,5 +37,5 @@ pub use meaning_laws::{
     answer_is_meant, full_names_are_meant, looks_are_meant, places_are_told, predicates_are_meant,
     program_is_meant,
 };
-pub use need::{Need, Start, State};
+pub use need::{Need, Start};
 pub use view::View;

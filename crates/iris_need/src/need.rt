@@ -3,22 +3,8 @@ ghost use Rattle.std.specs.Prelude.{◌≡◌, IfOk};
 ghost use Rattle.iris_need.specs.Needs.{from_document};
 
 use iris_fragment::Level;
-use iris_tree::{Label, Mem, Name, Sequence};
+use iris_tree::{Label, Mem, Name, Sequence, State};
 use std::alloc::Global;
-
-/// How an evaluation stands at a node. Steps are numbered from 0. States are ordered as they stand here,
-/// and then by their numbers.
-#[derive(Clone, Copy, Debug, PartialEq, Eq, PartialOrd, Ord)]
-pub enum State {
-    /// A step goes on from here.
-    At(u32),
-    /// A step with `//` goes on from here, after it came from above.
-    Seek(u32),
-    /// The predicates of a step are to be tested here.
-    Test(u32),
-    /// The node is selected, with all below it.
-    Whole,
-}
 
 /// A look at a node: at which level, and with which states the evaluation stands there.
 #[derive(Debug, Drop)]

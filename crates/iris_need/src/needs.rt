@@ -3,9 +3,9 @@ ghost use Rattle.std.specs.Prelude.{◌≡◌, ◌≤◌, length, [], fold, IfOk
 ghost use Rattle.std.specs.List.{insert};
 ghost use Rattle.iris_need.specs.Needs.{greater, with_state, with_look};
 
-use crate::need::{Need, State};
+use crate::need::Need;
 use iris_fragment::Level;
-use iris_tree::{Mem, Name, Sequence};
+use iris_tree::{Mem, Name, Sequence, State};
 use std::alloc::Global;
 use std::cmp::Ordering;
 use std::collections::BTreeMap;

@@ -1,27 +1,23 @@
 //! Where a walk stands in the steps of a query.
-ghost use Rattle.std.specs.Prelude.{◌≡◌, ◌+◌, ◌<◌, ◌≤◌, ◌∷◌, [], true, length, drop, IfSome, MatchOption};
+ghost use Rattle.std.specs.Prelude.{◌≡◌, ◌+◌, ◌<◌, ◌≤◌, ◌∷◌, [], length, drop, IfSome, MatchOption};
 ghost use Rattle.iris_base.specs.declared.limits.TheConstants.{MAX_STEPS};
-ghost use Rattle.iris_xpath.specs.ThinQuery.{is_thin, is_thin_step, thin_step, thin_of};
 
 use iris_xpath::{Expression, Step};
 
 /// The step to go by, its number, and those after it.
 #[derive(Clone, Copy)]
-pub(crate) struct Route<'a> {
+pub(crate) struct Route<'p> {
     pub(crate) number: u32,
-    pub(crate) step: &'a Step<Expression>,
-    pub(crate) rest: &'a [Step<Expression>],
+    pub(crate) step: &'p Step<Expression>,
+    pub(crate) rest: &'p [Step<Expression>],
     ghost few: { number + length rest.now < MAX_STEPS },
-    ghost thin: { is_thin_step step.now ≡ true },
-    ghost further: { is_thin rest.now ≡ true },
 }
 
-impl<'a> Route<'a> {
+impl<'p> Route<'p> {
     /// The route from the step of that number on; none where there is no such step.
-    pub(crate) fn at(steps: &'a [Step<Expression>], number: u32) -> Option<Route<'a>>
+    pub(crate) fn at(steps: &'p [Step<Expression>], number: u32) -> Option<Route<'p>>
         requires few { length steps.now ≤ MAX_STEPS }
-        requires thin { is_thin steps.now ≡ true }
-        ensures cut { MatchOption result (drop number (thin_of steps.now) ≡ []) (λ r. drop number (thin_of steps.now) ≡ thin_step r.step.now ∷ thin_of r.rest.now) }
+        ensures cut { MatchOption result (drop number steps.now ≡ []) (λ r. drop number steps.now ≡ r.step.now ∷ r.rest.now) }
         ensures from { IfSome result (λ r. r.number ≡ number) }
     {
         let i = number as usize;
@@ -36,7 +32,7 @@ impl<'a> Route<'a> {
     }
 
     /// The route from the step after this one on; none after the last.
-    pub(crate) fn next(&self) -> Option<Route<'a>>
+    pub(crate) fn next(&self) -> Option<Route<'p>>
         ensures cut { MatchOption result (self.now.rest.now ≡ []) (λ r. self.now.rest.now ≡ r.step.now ∷ r.rest.now) }
         ensures from { IfSome result (λ r. r.number ≡ self.now.number + 1) }
     {

@@ -4,7 +4,7 @@ use Rattle.std.specs.BTreeMap.{insert_entry}
 use Rattle.std.specs.Option.{option_to_list}
 use Rattle.iris_base.specs.declared.name.Label.{Label}
 use Rattle.iris_need.specs.declared.need.Need.{Need}
-use Rattle.iris_need.specs.declared.need.State.{State}
+use Rattle.iris_base.specs.declared.state.State.{State}
 use Rattle.iris_need.specs.Needs.{with_look}
 use Rattle.iris_need.specs.Collected.{needs_of}
 use Rattle.iris_need.proofs.Pieces.{Entries, names_cmp, look_absent, look_found}

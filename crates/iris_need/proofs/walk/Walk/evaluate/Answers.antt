@@ -1,34 +1,26 @@
-use Rattle.std.proofs.Common.{◌≡◌, ◌∙◌, sym, ap, List, []}
+use Rattle.std.proofs.Common.{◌≡◌, ◌≢◌, ◌∙◌, [], List, sym, ap, map}
 use Rattle.std.proofs.lemmas.Result.{on_ok_weaker}
-use Rattle.iris_base.specs.declared.name.Label.{Label}
-use Rattle.iris_xpath.specs.ThinQuery.{thin_of}
-use Rattle.iris_need.specs.declared.need.State.{State}
-use Rattle.iris_need.specs.Needs.{is_under}
-use Rattle.iris_need.specs.Program.{gather}
-use Rattle.iris_need.specs.Starts.{top_enter}
-use Rattle.iris_need.specs.Collected.{collected}
-use Rattle.iris_need.proofs.Collected.{empty_is, under_itself}
-use Rattle.iris_need.proofs.Starts.{collected_top, from_node_on}
+use Rattle.iris_base.specs.declared.state.State.{State}
+use Rattle.iris_need.specs.declared.need.Need.{Need}
+use Rattle.iris_xpath.specs.Syntax.{Syntax, main_of}
+use Rattle.iris_need.specs.Program.{gather, enter, own_look, spot_of}
+use Rattle.iris_need.proofs.Resumed.{program_at_document, program_at_node, not_so, is_so}
+use Rattle.iris_need.proofs.Walked.{adding}
 use Rattle.iris_need.proofs.walk.Walk.evaluate.Goals as goal
 
-pub returns-in_default : goal.returns-in_default
-returns-in_default c =
-    let none : c.args.start.now.name ≡ [] = sym c.as_slice.ensures ∙ empty_is c.as_slice.result.now c.in_default.ensures.cases in
-    on_ok_weaker c.resume_all_at_document.result (λ h. h
-    ∙ ap (λ (ss : List State). collected c.args.self.now.takes c.args.self.now.above.now c.args.self.now.view.now c.args.needs.now (gather (top_enter c.args.start.now.top (thin_of c.args.self.now.steps.now)) ss)) c.as_slice-states.ensures
-    ∙ sym (collected_top c.args.self.now.takes c.args.self.now.above.now c.args.self.now.view.now c.args.needs.now c.args.self.now.steps.now c.args.start.now c.args.self.now.thin none)) c.resume_all_at_document.ensures
-
-pub look_at_start-requires : goal.look_at_start-requires
-look_at_start-requires c = record {
-  under = ap (λ (n : List Label). is_under n c.args.self.now.above.now) c.in_ok-name.ensures ∙ ap (λ (a : List Label). is_under c.args.start.now.name a) c.requires.above ∙ under_itself c.args.start.now.name;
-}
-
-pub resume_all-requires : goal.resume_all-requires
-resume_all-requires c = record {
-  under = ap (λ (n : List Label). is_under n c.args.self.now.above.now) c.in_ok-name.ensures ∙ ap (λ (a : List Label). is_under c.args.start.now.name a) c.requires.above ∙ under_itself c.args.start.now.name;
-}
+pub returns-then-is_document : goal.returns-then-is_document
+returns-then-is_document c =
+    let none : c.in_ok-name.name ≡ [] = is_so c.is_document.result (c.in_ok-name.name ≡ []) c.is_document.ensures c.if-is_document.true in
+    on_ok_weaker c.resume_all.result (λ h. h
+    ∙ ap (λ (q : Syntax). adding c.args.self.now c.args.needs.now (gather (enter c.args.self.now.top (map main_of q) (spot_of c.in_ok-name.name)) c.as_slice-states.result.now)) c.steps-steps.ensures.value
+    ∙ ap (λ (ss : List State). adding c.args.self.now c.args.needs.now (gather (enter c.args.self.now.top (map main_of c.args.query.now) (spot_of c.in_ok-name.name)) ss)) c.as_slice-states.ensures
+    ∙ program_at_document c.args.self.now c.args.needs.now c.args.query.now c.args.start.now c.in_ok-name.name c.requires.top (sym c.in_ok-name.ensures ∙ none) c.in_ok-name.ensures) c.resume_all.ensures
 
 pub returns : goal.returns
 returns c =
-    on_ok_weaker c.resume_all.result (λ h. from_node_on c.args.self.now.takes c.args.self.now.above.now c.args.self.now.view.now c.args.needs.now c.look_at_start.new.needs c.resume_all.new.needs c.args.self.now.steps.now c.args.start.now c.in_ok-name.name c.in-Some.field-0-1.now c.in-Some.label.now c.as_slice-states.result.now
-    c.args.self.now.thin (sym c.as_slice.ensures ∙ c.in-Some.ensures.cases.0) c.in_ok-name.ensures c.as_slice-states.ensures c.in_ok-look_at_start.ensures h) c.resume_all.ensures
+    let node : c.args.start.now.name ≢ [] = λ none. not_so c.is_document.result (c.in_ok-name.name ≡ []) c.is_document.ensures c.if-is_document.false (c.in_ok-name.ensures ∙ none) in
+    on_ok_weaker c.resume_all-2.result (λ h. h
+    ∙ ap (λ (ns : List Need). adding c.args.self.now ns (gather (enter c.args.self.now.top (map main_of c.steps-steps.result.now) (spot_of c.in_ok-name.name)) c.as_slice-states.result.now)) c.in_ok-look_at_start.ensures
+    ∙ ap (λ (q : Syntax). adding c.args.self.now (adding c.args.self.now c.args.needs.now (own_look c.in_ok-name.name c.args.start.now.level)) (gather (enter c.args.self.now.top (map main_of q) (spot_of c.in_ok-name.name)) c.as_slice-states.result.now)) c.steps-steps.ensures.value
+    ∙ ap (λ (ss : List State). adding c.args.self.now (adding c.args.self.now c.args.needs.now (own_look c.in_ok-name.name c.args.start.now.level)) (gather (enter c.args.self.now.top (map main_of c.args.query.now) (spot_of c.in_ok-name.name)) ss)) c.as_slice-states.ensures
+    ∙ program_at_node c.args.self.now c.args.needs.now c.args.query.now c.args.start.now c.in_ok-name.name c.requires.top node c.in_ok-name.ensures) c.resume_all-2.ensures
