@@ -1,8 +1,5 @@
 //! The comparison of one evaluation over a part of a document with that over the whole.
 
-ghost use Rattle.std.specs.Prelude.{◌≡◌, true};
-ghost use Rattle.iris_xpath.specs.ThinQuery.{is_thin};
-
 use crate::parts::piece;
 use anyhow::{Context, ensure};
 use iris_fragment::Level;
@@ -32,9 +29,7 @@ fn complete(
     start: &Start,
     view: &mut View,
     tally: &mut Tally,
-) -> anyhow::Result<bool>
-    requires { is_thin query.now ≡ true }
-{
+) -> anyhow::Result<bool> {
     for _ in 0..MOST_ROUNDS {
         let needs = missing(alloc, query, start, view)?;
         if needs.is_empty() {
@@ -69,7 +64,6 @@ pub fn compare(
     view: View,
     tally: &mut Tally,
 ) -> anyhow::Result<()> {
-    ensure!(query.is_thin(), "the query is not thin");
     let top: Label = *document.label();
     let start = Start::from_document(alloc, top)?;
     let mut view = view;
