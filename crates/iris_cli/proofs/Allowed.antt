@@ -220,7 +220,7 @@ sound_start start = record {
 
 good_start : (city : List ℕ) (w : World) → Starts city w → IsGood w.site
 good_start city w starts = record {
-  ordered = city_ordered city w.site.kinds w.agent w.site.history.start starts.is_city;
+  ordered = subst IsOrdered (sym starts.start_is) (city_ordered city starts.city starts.reads);
   sound = subst (λ (es : List Entry). AreSound w.site.history.start (updates_in es)) (sym starts.nothing_accepted) (sound_start w.site.history.start);
   past = no_past w.site.history w.site.now starts.nothing_accepted;
 }

@@ -44,7 +44,7 @@ told_whole : (lines : List (List ℕ)) (s : Option World) (rest left part : List
 told_whole lines s rest left part number (Ok u) h = (h.0, h.1, h.2, append-nil part ∙ h.3)
 told_whole lines s rest left part number (Err halts.ReadFault) h = (h.0, h.1, h.2, append-nil part ∙ h.3)
 told_whole lines s rest left part number (Err halts.WriteFault) h = inl (subst (λ (v : List ℕ). WritesFront lines s rest left v) (sym (append-nil part)) h)
-told_whole lines s rest left part number (Err (halts.BadLine why)) h = (h.0, ap (λ v. v ++ last_line (BadScript number why)) h.1)
+told_whole lines s rest left part number (Err (halts.BadLine why node)) h = (h.0, ap (λ v. v ++ last_line (BadScript number why node)) h.1)
 told_whole lines s rest left part number (Err (halts.Limit which count)) h = (h.0, ap (λ v. v ++ last_line (Limit which count)) h.1)
 told_whole lines s rest left part number (Err halts.Memory) h = inl (subst (λ (v : List ℕ). WritesFront lines s rest left v) (sym (append-nil part)) h)
 
@@ -58,7 +58,7 @@ told_part : (lines : List (List ℕ)) (s : Option World) (rest left part more un
 told_part lines s rest left part more unwritten number (Ok u) h e = told_nothing lines s rest left part more unwritten h.3 e
 told_part lines s rest left part more unwritten number (Err halts.ReadFault) h e = told_nothing lines s rest left part more unwritten h.3 e
 told_part lines s rest left part more unwritten number (Err halts.WriteFault) h e = inl (subst (λ (v : List ℕ). WritesFront lines s rest left v) (sym (ap (λ v. part ++ v) (no_front more unwritten e) ∙ append-nil part)) h)
-told_part lines s rest left part more unwritten number (Err (halts.BadLine why)) h e = inr (BadScript number why, unwritten, h.0, e ∙ ap (λ v. (v ++ more) ++ unwritten) (sym h.1))
+told_part lines s rest left part more unwritten number (Err (halts.BadLine why node)) h e = inr (BadScript number why node, unwritten, h.0, e ∙ ap (λ v. (v ++ more) ++ unwritten) (sym h.1))
 told_part lines s rest left part more unwritten number (Err (halts.Limit which count)) h e = inr (Limit which count, unwritten, h.0, e ∙ ap (λ v. (v ++ more) ++ unwritten) (sym h.1))
 told_part lines s rest left part more unwritten number (Err halts.Memory) h e = inl (subst (λ (v : List ℕ). WritesFront lines s rest left v) (sym (ap (λ v. part ++ v) (no_front more unwritten e) ∙ append-nil part)) h)
 

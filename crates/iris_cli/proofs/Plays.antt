@@ -4,24 +4,18 @@ use Rattle.std.specs.List.{AllByRecursion, flat_map}
 use Rattle.std.specs.Io.KnownBytes.{Appends, Consumes}
 use Rattle.std.proofs.KnownBytes.{Appends-nil, Appends-trans}
 use Rattle.iris_base.specs.declared.limits.TheConstants.{MAX_LINE_BYTES, MAX_SCRIPT_BYTES}
-use Rattle.iris_json.specs.declared.city.CityError.{CityError}
-use Rattle.iris_json.specs.declared.city.CityError.TheVariants as city_errors
-use Rattle.iris_json.specs.declared.line.LineError.{LineError}
-use Rattle.iris_json.specs.declared.line.LineError.TheVariants as line_errors
-use Rattle.iris_json.specs.declared.line.LineWhy.TheVariants as line_whys
 use Rattle.iris_json.specs.declared.out.Why.{Why}
-use Rattle.iris_json.specs.declared.out.Why.TheVariants as whys
 use Rattle.iris_json.specs.declared.out.Which.{Which}
 use Rattle.iris_cli.specs.declared.halt.Halt.{Halt}
 use Rattle.iris_cli.specs.declared.halt.Halt.TheVariants.{ReadFault, WriteFault, BadLine, Limit, Memory}
 use Rattle.iris_cli.specs.declared.event.Event.{Event}
 use Rattle.iris_cli.specs.declared.event.Event.TheVariants as events
-use Rattle.iris_cli.specs.Halt.{of_city, of_line}
 use Rattle.iris_cli.specs.Lines.{IsLine, ended}
 use Rattle.iris_cli.specs.LineSays.{LineSays}
 use Rattle.iris_cli.specs.Run.{World, out_lines, brings, is_posted, after, Runs, Starts}
-use Rattle.iris_cli.specs.Taken.{ScriptState, max_line_bytes, LineFollows, IsWithinLimits, PassesLimit, TakesNext}
+use Rattle.iris_cli.specs.Taken.{ScriptState, max_line_bytes, LineFollows, IsWithinLimits, PassesLimit, MeetsEnd, empty, truncated, TakesNext}
 use Rattle.iris_cli.specs.Played.{room_after, AreShort, AreLines, DoneSo, BeginsRefused, WritesFront, IsFault}
+use Rattle.iris_cli.specs.Played as faults
 use Rattle.iris_cli.proofs.Allowed.{good_done, brings_allowed}
 use Rattle.iris_cli.specs.Stepped.{RefusesCityLine, AddsFront, Stepped, IsSoFar, Halts, RanTo}
 
@@ -162,37 +156,32 @@ within lines line number room n r f = subst (λ (m : ℕ). IsWithinLimits m (roo
 passes : (lines : List (List ℕ)) (front : List ℕ) (number room : ℕ) (which : Which) (count : ℕ) → number ≡ length lines → room ≡ room_after lines → PassesLimit number room front which count → PassesLimit (length lines) (room_after lines) front which count
 passes lines front number room which count n r p = subst (λ (m : ℕ). PassesLimit m (room_after lines) front which count) n (subst (λ (m : ℕ). PassesLimit number m front which count) r p)
 
+-- where the text is told, so is what is left at its end
+end_is_told : (s t : ScriptState) (rest : List ℕ) (why : Why) (node : Option ℕ) → MeetsEnd s t (Some rest) None why node → ⊥
+end_is_told s t rest _ _ (empty took at first number) = took
+end_is_told s t rest _ _ (truncated cut took inside some at number) = took
+
+-- the end where a line must be is a fault of the script
+end_is_fault : (lines : List (List ℕ)) (w : Option World) (s t : ScriptState) (rest left : List ℕ) (why : Why) (node : Option ℕ) → s.number ≡ length lines → s.room ≡ room_after lines → MeetsEnd s t (Some rest) (Some left) why node → IsFault lines w rest left t.number why node
+end_is_fault lines w s t rest left _ _ n r (empty took at first number) = faults.empty (no_lines lines (sym n ∙ first)) (took ∙ at) at (number ∙ ap (λ m. m + 1) first)
+end_is_fault lines w s t rest left _ _ n r (truncated cut took inside some at number) =
+    let same : cut ≡ rest = sym (took ∙ ap (λ v. cut ++ v) at ∙ append-nil cut) in
+    faults.truncated (subst (λ (v : List ℕ). IsWithinLimits (length lines) (room_after lines) v) same (within lines cut s.number s.room n r inside)) (λ e. some (same ∙ e)) at (number ∙ ap (λ m. m + 1) n)
+
 -- the reader of the script gives no further line
 pub next_halts : (first now next old new : Option (List ℕ)) (s t : ScriptState) (w : Option World) (halt : Halt) → IsSoFar first now old new s.number s.room w → TakesNext s now next t (Err halt) → RanTo first next old new t.number (Err halt)
 next_halts None now next old new s t w halt h k = tt
 next_halts (Some text) None next old new s t w halt h k = absurd h
 next_halts (Some text) (Some rest) None old new s t w ReadFault h k = absurd k.1
 next_halts (Some text) (Some rest) None old new s t w WriteFault h k = absurd k
-next_halts (Some text) (Some rest) None old new s t w (BadLine whys.Empty) h k = absurd k.0
-next_halts (Some text) (Some rest) None old new s t w (BadLine whys.Truncated) h k = absurd k.1
-next_halts (Some text) (Some rest) None old new s t w (BadLine whys.NotJson) h k = absurd k
-next_halts (Some text) (Some rest) None old new s t w (BadLine whys.Shape) h k = absurd k
-next_halts (Some text) (Some rest) None old new s t w (BadLine whys.Name) h k = absurd k
-next_halts (Some text) (Some rest) None old new s t w (BadLine whys.Number) h k = absurd k
-next_halts (Some text) (Some rest) None old new s t w (BadLine whys.Change) h k = absurd k
+next_halts (Some text) (Some rest) None old new s t w (BadLine why node) h k = absurd (end_is_told s t rest why node k)
 next_halts (Some text) (Some rest) None old new s t w (Limit which count) h k = absurd k.1
 next_halts (Some text) (Some rest) None old new s t w Memory h k = absurd k.1
 next_halts (Some text) (Some rest) (Some left) old new s t w ReadFault h k =
     ends text rest left old new new s.number s.room w [] t.number (Err ReadFault) h (Appends-nil new) (λ lines n r. (k.0, k.1, within lines k.0 s.number s.room n r k.2, refl))
 next_halts (Some text) (Some rest) (Some left) old new s t w WriteFault h k = absurd k
-next_halts (Some text) (Some rest) (Some left) old new s t w (BadLine whys.Empty) h k =
-    ends text rest left old new new s.number s.room w [] t.number (Err (BadLine whys.Empty)) h (Appends-nil new) (λ lines n r. ((no_lines lines (sym n ∙ k.2), k.0 ∙ k.1, k.1, k.3 ∙ ap (λ m. m + 1) k.2), refl))
-next_halts (Some text) (Some rest) (Some left) old new s t w (BadLine whys.Truncated) h k =
-    let same : k.0 ≡ rest = sym (k.1 ∙ ap (λ v. k.0 ++ v) k.4 ∙ append-nil k.0) in
-    ends text rest left old new new s.number s.room w [] t.number (Err (BadLine whys.Truncated)) h (Appends-nil new) (λ lines n r. (
-      (subst (λ (v : List ℕ). IsWithinLimits (length lines) (room_after lines) v) same (within lines k.0 s.number s.room n r k.2), (λ e. k.3 (same ∙ e)), k.4, k.5 ∙ ap (λ m. m + 1) n),
-      refl,
-    ))
-next_halts (Some text) (Some rest) (Some left) old new s t w (BadLine whys.NotJson) h k = absurd k
-next_halts (Some text) (Some rest) (Some left) old new s t w (BadLine whys.Shape) h k = absurd k
-next_halts (Some text) (Some rest) (Some left) old new s t w (BadLine whys.Name) h k = absurd k
-next_halts (Some text) (Some rest) (Some left) old new s t w (BadLine whys.Number) h k = absurd k
-next_halts (Some text) (Some rest) (Some left) old new s t w (BadLine whys.Change) h k = absurd k
+next_halts (Some text) (Some rest) (Some left) old new s t w (BadLine why node) h k =
+    ends text rest left old new new s.number s.room w [] t.number (Err (BadLine why node)) h (Appends-nil new) (λ lines n r. (end_is_fault lines w s t rest left why node n r k, refl))
 next_halts (Some text) (Some rest) (Some left) old new s t w (Limit which count) h k =
     ends text rest left old new new s.number s.room w [] t.number (Err (Limit which count)) h (Appends-nil new) (λ lines n r. (inl (k.0, k.1, passes lines k.0 s.number s.room which count n r k.2), refl))
 next_halts (Some text) (Some rest) (Some left) old new s t w Memory h k =
@@ -208,30 +197,6 @@ next_ends (Some text) (Some rest) (Some left) old new s t w h k =
 
 -- ---- a line that is refused
 
--- it has bytes and an LF, so this is not what is told
-told_city : (error : CityError) (why : Why) → of_city error ≡ BadLine why → (why ≢ whys.Empty) × (why ≢ whys.Truncated)
-told_city city_errors.NotJson why e = ((λ f. cc), (λ f. cc))
-told_city (city_errors.BadCity bad) why e = ((λ f. cc), (λ f. cc))
-told_city (city_errors.CityLimit which count) why e = ((λ f. cc), (λ f. cc))
-told_city city_errors.Memory why e = ((λ f. cc), (λ f. cc))
-
-told_line : (error : LineError) (why : Why) → of_line error ≡ BadLine why → (why ≢ whys.Empty) × (why ≢ whys.Truncated)
-told_line line_errors.NotJson why e = ((λ f. cc), (λ f. cc))
-told_line (line_errors.BadLine line_whys.Shape) why e = ((λ f. cc), (λ f. cc))
-told_line (line_errors.BadLine line_whys.Name) why e = ((λ f. cc), (λ f. cc))
-told_line (line_errors.BadLine line_whys.Number) why e = ((λ f. cc), (λ f. cc))
-told_line (line_errors.BadLine line_whys.Change) why e = ((λ f. cc), (λ f. cc))
-told_line line_errors.Memory why e = ((λ f. cc), (λ f. cc))
-
-is_fault : (lines : List (List ℕ)) (w : Option World) (rest left : List ℕ) (at : ℕ) (why : Why) → (why ≢ whys.Empty) × (why ≢ whys.Truncated) → BeginsRefused lines w rest left (BadLine why) → at ≡ length lines + 1 → IsFault lines w rest left at why
-is_fault lines w rest left at whys.Empty t b e = absurd (t.0 refl)
-is_fault lines w rest left at whys.Truncated t b e = absurd (t.1 refl)
-is_fault lines w rest left at whys.NotJson t b e = (b, e)
-is_fault lines w rest left at whys.Shape t b e = (b, e)
-is_fault lines w rest left at whys.Name t b e = (b, e)
-is_fault lines w rest left at whys.Number t b e = (b, e)
-is_fault lines w rest left at whys.Change t b e = (b, e)
-
 -- the first line is no city
 pub start_halts : (first now next old new : Option (List ℕ)) (number room at : ℕ) (line : List ℕ) (halt : Halt) → IsSoFar first now old new number room None → Consumes now next (ended line) → LineFollows number room line → at ≡ number + 1 → RefusesCityLine line halt
     → RanTo first next old new at (Err halt)
@@ -240,9 +205,9 @@ start_halts (Some text) None next old new number room at line halt h c n l f = a
 start_halts (Some text) (Some rest) None old new number room at line halt h c n l f = absurd c
 start_halts (Some text) (Some rest) (Some left) old new number room at line ReadFault h c n l f = absurd f
 start_halts (Some text) (Some rest) (Some left) old new number room at line WriteFault h c n l f = absurd f
-start_halts (Some text) (Some rest) (Some left) old new number room at line (BadLine why) h c n l f =
-    ends text rest left old new new number room None [] at (Err (BadLine why)) h (Appends-nil new)
-    (λ lines k r. (is_fault lines None rest left at why (told_city f.1.0 why f.1.2) (line, c, follows lines line number room k r n, f) (l ∙ ap (λ m. m + 1) k), refl))
+start_halts (Some text) (Some rest) (Some left) old new number room at line (BadLine why node) h c n l f =
+    ends text rest left old new new number room None [] at (Err (BadLine why node)) h (Appends-nil new)
+    (λ lines k r. (faults.refused why node (line, c, follows lines line number room k r n, f) (l ∙ ap (λ m. m + 1) k), refl))
 start_halts (Some text) (Some rest) (Some left) old new number room at line (Limit which count) h c n l f =
     ends text rest left old new new number room None [] at (Err (Limit which count)) h (Appends-nil new) (λ lines k r. (inr (line, c, follows lines line number room k r n, f), refl))
 start_halts (Some text) (Some rest) (Some left) old new number room at line Memory h c n l f =
@@ -264,9 +229,9 @@ run_halts (Some text) None next old mid new number room at w v line halt h c n l
 run_halts (Some text) (Some rest) None old mid new number room at w v line halt h c n l f = absurd c
 run_halts (Some text) (Some rest) (Some left) old mid new number room at w v line ReadFault h c n l f = absurd f
 run_halts (Some text) (Some rest) (Some left) old mid new number room at w v line WriteFault h c n l f = adds_front text rest left old mid new number room at w line WriteFault h c n f (λ lines part x. x)
-run_halts (Some text) (Some rest) (Some left) old mid new number room at w v line (BadLine why) h c n l f =
-    ends text rest left old mid new number room (Some w) [] at (Err (BadLine why)) h f.2
-    (λ lines k r. (is_fault lines (Some w) rest left at why (told_line f.1.0 why f.1.2) (line, c, follows lines line number room k r n, (f.0, f.1)) (l ∙ ap (λ m. m + 1) k), refl))
+run_halts (Some text) (Some rest) (Some left) old mid new number room at w v line (BadLine why node) h c n l f =
+    ends text rest left old mid new number room (Some w) [] at (Err (BadLine why node)) h f.2
+    (λ lines k r. (faults.refused why node (line, c, follows lines line number room k r n, (f.0, f.1)) (l ∙ ap (λ m. m + 1) k), refl))
 run_halts (Some text) (Some rest) (Some left) old mid new number room at w v line (Limit which count) h c n l f = absurd f
 run_halts (Some text) (Some rest) (Some left) old mid new number room at w v line Memory h c n l f = adds_front text rest left old mid new number room at w line Memory h c n f (λ lines part x. x)
 

@@ -57,7 +57,7 @@ no_value : (here : Option Node) (n : ℕ) → None ≡ option_map (λ _. n) here
 no_value None n e = refl
 no_value (Some there) n e = absurd (cc)
 
-pub made_nowhere : (s : SiteState) (request : ℕ) (u : SentUpdate) → None ≡ latest s.history u.name → made_by s request u ≡ Err (outs.NoSuchNode request)
+pub made_nowhere : (s : SiteState) (request : ℕ) (u : SentUpdate) → None ≡ latest s.history u.name → made_by s request u ≡ Err (outs.NoSuchNode (Some request))
 made_nowhere s request u none =
     let gone = no_value (node_at s.history.start u.name) (update_count s.history u.name) none in
     ap (λ (o : Option Local). made_of s.kinds request o (last_number s u.name) u) (value_nowhere s.history.start (updates_in s.history.entries) u.name (version_of s u.name) gone)

@@ -9,6 +9,7 @@ use Rattle.iris_cli.specs.declared.line.NextLine.{NextLine}
 use Rattle.iris_cli.specs.declared.line.NextLine.TheVariants as lines
 use Rattle.iris_cli.specs.Lines.{LF, NoLf, IsLine, ended, TakesLine}
 use Rattle.iris_cli.specs.Taken.{ScriptState, max_line_bytes, IsWithinLimits, PassesLimit, TakesNext}
+use Rattle.iris_cli.specs.Taken as passed
 use Rattle.iris_cli.proofs.Bytes.{none_left}
 
 -- bytes without LF, and the last of them
@@ -38,7 +39,8 @@ past_line number room line few clean l fits =
       byte = s.1;
       front_is = s.2;
       within = record { no_lf = s.3; line = omega (arith, size); script = omega (arith, size, fits); lines = λ some. few };
-      past = (clean, omega (arith, l));
+      limit = max_line_bytes number;
+      past = passed.line (clean, omega (arith, l));
       count_is = refl;
     }
 
@@ -52,7 +54,8 @@ past_script number room line few clean l short =
       byte = s.1;
       front_is = s.2;
       within = record { no_lf = s.3; line = omega (arith, size, short); script = omega (arith, size); lines = λ some. few };
-      past = (omega (arith, l), λ long. let long_by = long.1 in omega (arith, long_by, l, short));
+      limit = MAX_SCRIPT_BYTES;
+      past = passed.script (omega (arith, l)) (λ long. let long_by = long.1 in omega (arith, long_by, l, short));
       count_is = refl;
     }
 
@@ -65,7 +68,8 @@ past_script_at_lf number room line few is l =
       byte = LF;
       front_is = refl;
       within = record { no_lf = is.0; line = is.1; script = omega (arith, l); lines = λ some. few };
-      past = (omega (arith, size, l), λ long. has_lf line long.0);
+      limit = MAX_SCRIPT_BYTES;
+      past = passed.script (omega (arith, size, l)) (λ long. has_lf line long.0);
       count_is = refl;
     }
 
@@ -89,7 +93,8 @@ past_script_and_lines number room front l full =
       byte = b.0;
       front_is = b.1;
       within = nothing number room;
-      past = (omega (arith, l, full), λ long. let long_by = long.1 in omega (arith, long_by, l, some));
+      limit = MAX_SCRIPT_BYTES;
+      past = passed.script (omega (arith, l, full)) (λ long. let long_by = long.1 in omega (arith, long_by, l, some));
       count_is = refl;
     }
 
@@ -103,7 +108,8 @@ past_lines number room front last l free =
       byte = b.0;
       front_is = b.1;
       within = nothing number room;
-      past = ((last, λ e. let z : length front ≡ 0 = ap length e in omega (arith, z, l)), (λ long. let long_by = long.1 in omega (arith, long_by, l, some)), λ long. omega (arith, long, l, free));
+      limit = MAX_LINES;
+      past = passed.lines last (λ e. let z : length front ≡ 0 = ap length e in omega (arith, z, l)) (λ long. let long_by = long.1 in omega (arith, long_by, l, some)) (λ long. omega (arith, long, l, free));
       count_is = refl;
     }
 

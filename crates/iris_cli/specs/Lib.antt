@@ -6,6 +6,7 @@ pub mod LineSays
 pub mod Lines
 pub mod Played
 pub mod Run
+pub mod Served
 pub mod Sessions
 pub mod Statuses
 pub mod Stepped

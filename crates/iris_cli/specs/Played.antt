@@ -3,8 +3,8 @@ use Rattle.std.specs.Prelude.{◌≡◌, ◌≢◌, ℕ, ◌+◌, ◌-◌, ◌�
 use Rattle.std.specs.List.{flat_map, AllByRecursion}
 use Rattle.std.specs.Io.KnownBytes.{Appends}
 use Rattle.iris_base.specs.declared.limits.TheConstants.{MAX_CITY_BYTES, MAX_LINE_BYTES, MAX_SCRIPT_BYTES, MAX_LINES}
-use Rattle.iris_tree.specs.Universe.{Node}
 use Rattle.iris_json.specs.CityLine.{ReadsCity, RefusesCity}
+use Rattle.iris_json.specs.declared.city.City.{City}
 use Rattle.iris_json.specs.declared.city.CityError.{CityError}
 use Rattle.iris_json.specs.declared.out.Why.{Why}
 use Rattle.iris_json.specs.declared.out.Why.TheVariants as whys
@@ -19,6 +19,7 @@ use Rattle.iris_cli.specs.declared.event.Event.{Event}
 use Rattle.iris_cli.specs.Halt.{of_city}
 use Rattle.iris_cli.specs.Lines.{ended, IsLine}
 use Rattle.iris_cli.specs.LineSays.{LineSays, IsNoEvent, IsToldOf}
+use Rattle.iris_cli.specs.Served.{IsServedCity, IsUnservedCity, not_served}
 use Rattle.iris_cli.specs.Run.{World, out_line, out_lines, brings, RunsScript}
 use Rattle.iris_cli.specs.Allowed.{BringsAllowed, ScriptAllowed}
 use Rattle.iris_cli.specs.Taken.{PassesLimit, LineFollows, IsWithinLimits}
@@ -49,13 +50,17 @@ DoneSo (city ∷ lines) written (Some w) = RunsScript city lines written w
 
 -- ---- a line that is refused
 
--- the line is no city line
+-- the line is of no city that is served
 abbrev pub IsNoCityLine : List ℕ → Type 0
-IsNoCityLine line = (kinds : List (List ℕ)) (agent : List ℕ) (document : Node) → ReadsCity line kinds agent document → ⊥
+IsNoCityLine line = (city : City) (agent : List ℕ) → ReadsCity line city → IsServedCity city agent → ⊥
 
--- the line is no city line, and that is told of it
+-- what is told of a line of no city: what it lacks to be one, or, where the city is not served yet, that it is of no form
+abbrev pub IsToldOfCity : List ℕ → Halt → Type 0
+IsToldOfCity line halt = ((error : CityError) × RefusesCity line error × (of_city error ≡ halt)) ⊎ (IsUnservedCity line × (halt ≡ not_served))
+
+-- the line is of no city that is served, and that is told of it
 abbrev pub IsRefusedCity : List ℕ → Halt → Type 0
-IsRefusedCity line halt = IsNoCityLine line × ((error : CityError) × RefusesCity line error × (of_city error ≡ halt))
+IsRefusedCity line halt = IsNoCityLine line × IsToldOfCity line halt
 
 -- the next line is no line of a script where the run stands, and that is told of it
 abbrev pub IsRefused : Option World → List ℕ → Halt → Type 0
@@ -68,15 +73,11 @@ BeginsRefused lines w rest left halt = (bad : List ℕ) × (rest ≡ ended bad +
 
 -- ---- how the rest of the script begins
 
--- what is wrong with the rest, how much of it was not taken, and which line that is
-abbrev pub IsFault : List (List ℕ) → Option World → List ℕ → List ℕ → ℕ → Why → Type 0
-IsFault lines w rest left line whys.Empty = (lines ≡ []) × (rest ≡ []) × (left ≡ []) × (line ≡ 1)
-IsFault lines w rest left line whys.Truncated = IsWithinLimits (length lines) (room_after lines) rest × (rest ≢ []) × (left ≡ []) × (line ≡ length lines + 1)
-IsFault lines w rest left line whys.NotJson = BeginsRefused lines w rest left (halts.BadLine whys.NotJson) × (line ≡ length lines + 1)
-IsFault lines w rest left line whys.Shape = BeginsRefused lines w rest left (halts.BadLine whys.Shape) × (line ≡ length lines + 1)
-IsFault lines w rest left line whys.Name = BeginsRefused lines w rest left (halts.BadLine whys.Name) × (line ≡ length lines + 1)
-IsFault lines w rest left line whys.Number = BeginsRefused lines w rest left (halts.BadLine whys.Number) × (line ≡ length lines + 1)
-IsFault lines w rest left line whys.Change = BeginsRefused lines w rest left (halts.BadLine whys.Change) × (line ≡ length lines + 1)
+-- What is wrong with the rest, how much of it was not taken, and which line that is: there is no byte at all, the bytes after the last LF are no line, or a line is refused.
+pub data IsFault (lines : List (List ℕ)) (w : Option World) (rest left : List ℕ) (line : ℕ) : Why → Option ℕ → Type 0 where
+  empty : lines ≡ [] → rest ≡ [] → left ≡ [] → line ≡ 1 → IsFault lines w rest left line whys.Empty None
+  truncated : IsWithinLimits (length lines) (room_after lines) rest → rest ≢ [] → left ≡ [] → line ≡ length lines + 1 → IsFault lines w rest left line whys.Truncated None
+  refused : (why : Why) (node : Option ℕ) → BeginsRefused lines w rest left (halts.BadLine why node) → line ≡ length lines + 1 → IsFault lines w rest left line why node
 
 -- the bytes that were taken pass that limit: of a line, of the script, or of the city
 abbrev pub IsPast : List (List ℕ) → Option World → List ℕ → List ℕ → Which → ℕ → Type 0
@@ -94,7 +95,7 @@ WritesFront lines (Some w) rest left part = (part ≡ [])
 
 -- the last line of a run that ends so, if it has one
 abbrev pub last_out : Status → Option Out
-last_out (BadScript line why) = Some (outs.Ended line why)
+last_out (BadScript line why node) = Some (outs.Ended line why node)
 last_out (Limit which count) = Some (outs.Limit count which)
 last_out Done = None
 last_out Usage = None
@@ -113,7 +114,7 @@ last_line status = line_bytes (last_out status)
 
 -- the script has the fault that a last line tells
 abbrev pub IsTold : List (List ℕ) → Option World → List ℕ → List ℕ → Status → Type 0
-IsTold lines w rest left (BadScript line why) = IsFault lines w rest left line why
+IsTold lines w rest left (BadScript line why node) = IsFault lines w rest left line why node
 IsTold lines w rest left (Limit which count) = IsPast lines w rest left which count
 IsTold lines w rest left Done = ⊥
 IsTold lines w rest left Usage = ⊥
@@ -132,7 +133,7 @@ IsStopped lines w rest left part = WritesFront lines w rest left part
 abbrev pub Ending : List (List ℕ) → Option World → List ℕ → List ℕ → List ℕ → Status → Type 0
 Ending lines w rest left part Done = (lines ≢ []) × (rest ≡ []) × (left ≡ []) × (part ≡ [])
 Ending lines w rest left part Usage = ⊥
-Ending lines w rest left part (BadScript line why) = IsTold lines w rest left (BadScript line why) × (part ≡ last_line (BadScript line why))
+Ending lines w rest left part (BadScript line why node) = IsTold lines w rest left (BadScript line why node) × (part ≡ last_line (BadScript line why node))
 Ending lines w rest left part (Limit which count) = IsTold lines w rest left (Limit which count) × (part ≡ last_line (Limit which count))
 Ending lines w rest left part ReadFault = (cut : List ℕ) × (rest ≡ cut ++ left) × IsWithinLimits (length lines) (room_after lines) cut × (part ≡ [])
 Ending lines w rest left part WriteFault = IsStopped lines w rest left part

@@ -9,6 +9,7 @@ use Rattle.iris_tree.specs.declared.local.Local.{Local}
 use Rattle.iris_tree.specs.Universe.{Node, node_at}
 use Rattle.iris_tree.specs.declared.item.Item.{Item}
 use Rattle.iris_tree.specs.Items.{items_at}
+use Rattle.iris_json.specs.declared.city.City.{City}
 use Rattle.iris_json.specs.declared.out.Out.{Out}
 use Rattle.iris_json.specs.declared.out.Out.TheVariants as outs
 use Rattle.iris_json.specs.CityLine.{ReadsCity}
@@ -26,6 +27,7 @@ use Rattle.iris_cli.specs.declared.event.Sent.TheVariants as sent
 use Rattle.iris_cli.specs.declared.event.SentUpdate.{SentUpdate}
 use Rattle.iris_cli.specs.declared.session.Posted.{Posted}
 use Rattle.iris_cli.specs.Lines.{ended}
+use Rattle.iris_cli.specs.Served.{IsServedCity}
 use Rattle.iris_cli.specs.LineSays.{LineSays}
 use Rattle.iris_cli.specs.CityChanges.{changes_in_city}
 
@@ -96,7 +98,7 @@ or_bad_change request (Err at) = Err (outs.BadChange at request)
 
 -- what an update makes of a node's value, where there is one, and of the number of its last update; or what is told where it is refused: no node is there, its number is not greater, or a change fails
 abbrev pub made_of : List (List ℕ) → ℕ → Option Local → ℕ → SentUpdate → Result Local Out
-made_of kinds request None last update = Err (outs.NoSuchNode request)
+made_of kinds request None last update = Err (outs.NoSuchNode (Some request))
 made_of kinds request (Some local) last update = if nat_le update.no last then Err (outs.Old last request) else or_bad_change request (changes_in_city kinds local update.changes)
 
 -- what an update makes of its node's newest value, or what is told where it is refused
@@ -137,7 +139,7 @@ after_all s (p ∷ ps) = after_all (after_delivery s p.request p.sent) ps
 -- the post of a query or an update, or what is told where the update's node is none
 abbrev pub post_out : World → Sent → Out
 post_out w (sent.Query query) = outs.Query w.posts w.requests w.agent
-post_out w (sent.Update update) = if is_some (node_at (today w.site.history) update.name) then outs.Update w.posts w.requests w.agent else outs.NoSuchNode w.requests
+post_out w (sent.Update update) = if is_some (node_at (today w.site.history) update.name) then outs.Update w.posts w.requests w.agent else outs.NoSuchNode (Some w.requests)
 
 abbrev pub is_posted : World → Sent → Bool
 is_posted w (sent.Query query) = true
@@ -171,9 +173,13 @@ abbrev pub Runs : World → List (List ℕ) → List ℕ → World → Type 0
 Runs w [] written now = (written ≡ []) × (now ≡ w)
 Runs w (line ∷ lines) written now = (event : Event) × (more : List ℕ) × LineSays w.site.kinds line event × Runs (after w event) lines more now × (written ≡ out_lines (brings w event) ++ more)
 
--- the city of a city line, with nothing accepted and nothing posted, at the moment 0
+-- the city of a city line, which is served, with nothing accepted and nothing posted, at the moment 0
 pub record Starts (line : List ℕ) (w : World) : Type 0 where
-  pub is_city : ReadsCity line w.site.kinds w.agent w.site.history.start
+  pub city : City
+  pub reads : ReadsCity line city
+  pub served : IsServedCity city w.agent
+  pub kinds_are : w.site.kinds ≡ city.kinds
+  pub start_is : w.site.history.start ≡ city.tree
   pub nothing_accepted : w.site.history.entries ≡ []
   pub begins : w.site.now ≡ 0
   pub nothing_posted : w.posted ≡ []

@@ -6,7 +6,7 @@ use Rattle.iris_cli.specs.declared.status.Status.TheVariants.{Done, Usage, BadSc
 abbrev pub number_of : Status → ℕ
 number_of Done = 0
 number_of Usage = 2
-number_of (BadScript line why) = 3
+number_of (BadScript line why at) = 3
 number_of ReadFault = 4
 number_of WriteFault = 5
 number_of (Limit which count) = 7

@@ -22,7 +22,7 @@ IsPartOf old new bytes = (part : List ℕ) × (unwritten : List ℕ) × (bytes �
 
 -- a city line is refused where it is none, unless there was no memory
 abbrev pub RefusesCityLine : List ℕ → Halt → Type 0
-RefusesCityLine line (BadLine why) = IsRefusedCity line (BadLine why)
+RefusesCityLine line (BadLine why node) = IsRefusedCity line (BadLine why node)
 RefusesCityLine line (Limit which count) = IsRefusedCity line (Limit which count)
 RefusesCityLine line Memory = Unit {0}
 RefusesCityLine line ReadFault = ⊥
@@ -36,7 +36,7 @@ AddsFront w line old new = Appends old new []
 -- the line was done, or why not
 abbrev pub Stepped : World → World → List ℕ → Option (List ℕ) → Option (List ℕ) → Result (Unit {0}) Halt → Type 0
 Stepped w next line old new (Ok u) = (event : Event) × LineSays w.site.kinds line event × (next ≡ after w event) × Appends old new (out_lines (brings w event))
-Stepped w next line old new (Err (BadLine why)) = IsNoEvent w.site.kinds line × IsToldOf line (BadLine why) × Appends old new []
+Stepped w next line old new (Err (BadLine why node)) = IsNoEvent w.site.kinds line × IsToldOf line (BadLine why node) × Appends old new []
 Stepped w next line old new (Err (Limit which count)) = ⊥
 Stepped w next line old new (Err WriteFault) = AddsFront w line old new
 Stepped w next line old new (Err Memory) = AddsFront w line old new
@@ -54,7 +54,7 @@ IsSoFar (Some text) (Some rest) old new number room w = (lines : List (List ℕ)
 -- what is so of the rest of the script where its lines were done up to this end
 abbrev pub Halts : List (List ℕ) → Option World → List ℕ → List ℕ → List ℕ → ℕ → Result (Unit {0}) Halt → Type 0
 Halts lines w rest left part number (Ok u) = (lines ≢ []) × (rest ≡ []) × (left ≡ []) × (part ≡ [])
-Halts lines w rest left part number (Err (BadLine why)) = IsFault lines w rest left number why × (part ≡ [])
+Halts lines w rest left part number (Err (BadLine why node)) = IsFault lines w rest left number why node × (part ≡ [])
 Halts lines w rest left part number (Err (Limit which count)) = IsPast lines w rest left which count × (part ≡ [])
 Halts lines w rest left part number (Err ReadFault) = (cut : List ℕ) × (rest ≡ cut ++ left) × IsWithinLimits (length lines) (room_after lines) cut × (part ≡ [])
 Halts lines w rest left part number (Err WriteFault) = WritesFront lines w rest left part
@@ -72,7 +72,7 @@ RanTo (Some text) (Some left) old new number result = (lines : List (List ℕ)) 
 -- the status of such an end, on that line
 abbrev pub status_of : ℕ → Result (Unit {0}) Halt → Status
 status_of number (Ok u) = statuses.Done
-status_of number (Err (BadLine why)) = statuses.BadScript number why
+status_of number (Err (BadLine why node)) = statuses.BadScript number why node
 status_of number (Err (Limit which count)) = statuses.Limit which count
 status_of number (Err ReadFault) = statuses.ReadFault
 status_of number (Err WriteFault) = statuses.WriteFault

@@ -3,10 +3,10 @@ ghost use Rattle.std.specs.Prelude.{◌≡◌, ℕ, List, IfOk, IfErr, Some};
 ghost use Rattle.iris_json.specs.declared.line.Line.TheVariants as lines;
 ghost use Rattle.iris_json.specs.Lines.{ReadsLine};
 ghost use Rattle.iris_xpath.specs.declared.error.QueryError.TheVariants as errors;
-ghost use Rattle.iris_cli.specs.LineSays.{fault_of, LineSays, RefusesEvent};
+ghost use Rattle.iris_cli.specs.LineSays.{fault_of, PostsQuery, LineSays, RefusesEvent};
 
 use crate::halt::Halt;
-use iris_json::{Line, QueryFault, Word, read_line};
+use iris_json::{Line, QueryFault, Why, Word, read_line};
 use iris_tree::{Change, Kind, Mem, Memory, Name, Sequence};
 use iris_xpath::{Query, QueryError, parse};
 use std::alloc::Global;
@@ -64,7 +64,7 @@ fn fault_of(error: QueryError) -> Mem<QueryFault>
 impl Event {
     // What a line says that posts what this text asks.
     fn of_query(alloc: Global, kinds: &[Kind], text: &str) -> Mem<Event>
-        ensures { IfOk result (λ event. (line : List ℕ) → ReadsLine line (lines.Query text.now) → LineSays kinds.now line event) }
+        ensures { IfOk result (λ event. (line : List ℕ) → PostsQuery line text.now → LineSays kinds.now line event) }
     {
         match parse(alloc, text, kinds) {
             Ok(query) => Ok(Event::Post {
@@ -88,13 +88,14 @@ impl Event {
         }
     }
 
-    /// What a line says, in a city with nodes of these kinds.
+    /// What a line says, in a city with nodes of these kinds. A line that asks something of several agents
+    /// is not served yet, and refused as one that is of no form.
     pub fn read(alloc: Global, kinds: &[Kind], line: &[u8]) -> Result<Event, Halt>
         ensures says { IfOk result (λ event. LineSays kinds.now line.now event) }
         ensures refused { IfErr result (RefusesEvent kinds.now line.now) }
     {
         Ok(match read_line(alloc, line)? {
-            Line::Query { query } => Event::of_query(alloc, kinds, query.as_str())?,
+            Line::Query { query, .. } => Event::of_query(alloc, kinds, query.as_str())?,
             Line::Update { name, no, changes } => {
                 let update = SentUpdate { name, no, changes };
                 Event::Post {
@@ -104,6 +105,13 @@ impl Event {
             Line::Audit { query } => Event::of_audit(alloc, kinds, query.as_str())?,
             Line::Now { at } => Event::Now { at },
             Line::Settle => Event::Settle,
+            Line::Find(_)
+            | Line::Give { .. }
+            | Line::Evict { .. }
+            | Line::Deliver { .. }
+            | Line::Forget
+            | Line::Owner { .. }
+            | Line::Summary => return Err(Halt::bad_line(Why::Shape)),
         })
     }
 }

@@ -1,8 +1,8 @@
 //! Why the play of a script goes no further.
-ghost use Rattle.std.specs.Prelude.{◌≡◌};
-ghost use Rattle.iris_cli.specs.Halt.{of_source, of_sink, why_of};
+ghost use Rattle.std.specs.Prelude.{◌≡◌, None};
+ghost use Rattle.iris_cli.specs.Halt.{of_source, of_sink, why_of, city_why, is_of_node};
 
-use iris_json::{CityError, LineError, LineWhy, Which, Why};
+use iris_json::{CityError, CityWhy, LineError, LineWhy, Which, Why};
 use iris_tree::{Fault, Memory};
 use std::alloc::{AllocError, AllocFailed};
 
@@ -13,8 +13,8 @@ pub enum Halt {
     ReadFault,
     /// The sink failed.
     WriteFault,
-    /// The present line is at fault.
-    BadLine { why: Why },
+    /// The present line is at fault; of a city line, at the node of that number, where one node is.
+    BadLine { why: Why, node: Option<u32> },
     /// That limit was passed; the count is the least that passes it, or the greatest that was found.
     Limit { which: Which, count: u64 },
     /// There was no memory.
@@ -55,6 +55,13 @@ impl<T: Drop> From<AllocFailed<T>> for Halt {
 }
 
 impl Halt {
+    /// The present line is at fault, and no node of it.
+    pub fn bad_line(why: Why) -> Halt
+        ensures { result ≡ Halt.BadLine why None }
+    {
+        Halt::BadLine { why, node: None }
+    }
+
     /// What the fault of a source tells.
     pub fn of_source(fault: Fault) -> Halt
         ensures { result ≡ of_source fault }
@@ -76,6 +83,34 @@ impl Halt {
     }
 }
 
+// What the last line tells of a city line.
+fn city_why(why: CityWhy) -> Why
+    ensures { result ≡ city_why why }
+{
+    match why {
+        CityWhy::Shape => Why::Shape,
+        CityWhy::Kinds => Why::Kinds,
+        CityWhy::Agents => Why::Agents,
+        CityWhy::Capacities => Why::Capacities,
+        CityWhy::Label => Why::Label,
+        CityWhy::Twin => Why::Twin,
+        CityWhy::Attribute => Why::Attribute,
+        CityWhy::Plain => Why::Plain,
+        CityWhy::Place => Why::Place,
+        CityWhy::Zone => Why::Zone,
+    }
+}
+
+// Whether that is the fault of one node, whose number is told.
+fn is_of_node(why: CityWhy) -> bool
+    ensures { result ≡ is_of_node why }
+{
+    matches!(
+        why,
+        CityWhy::Label | CityWhy::Twin | CityWhy::Attribute | CityWhy::Plain
+    )
+}
+
 impl From<CityError> for Halt {
     ghost use Rattle.std.specs.Prelude.{◌≡◌};
     ghost use Rattle.iris_cli.specs.Halt.{of_city};
@@ -84,8 +119,11 @@ impl From<CityError> for Halt {
 
     fn from(error: CityError) -> Halt {
         match error {
-            CityError::NotJson => Halt::BadLine { why: Why::NotJson },
-            CityError::BadCity { .. } => Halt::BadLine { why: Why::Shape },
+            CityError::NotJson => Halt::bad_line(Why::NotJson),
+            CityError::BadCity { node, why } => Halt::BadLine {
+                why: city_why(why),
+                node: is_of_node(why).then_some(node),
+            },
             CityError::CityLimit { which, count } => Halt::Limit { which, count },
             CityError::Memory => Halt::Memory,
         }
@@ -112,8 +150,8 @@ impl From<LineError> for Halt {
 
     fn from(error: LineError) -> Halt {
         match error {
-            LineError::NotJson => Halt::BadLine { why: Why::NotJson },
-            LineError::BadLine { why } => Halt::BadLine { why: why_of(why) },
+            LineError::NotJson => Halt::bad_line(Why::NotJson),
+            LineError::BadLine { why } => Halt::bad_line(why_of(why)),
             LineError::Memory => Halt::Memory,
         }
     }

@@ -54,7 +54,11 @@ fn status_of(ran: Result<(), Halt>, number: u64) -> Status
         Ok(()) => Status::Done,
         Err(Halt::ReadFault) => Status::ReadFault,
         Err(Halt::WriteFault) => Status::WriteFault,
-        Err(Halt::BadLine { why }) => Status::BadScript { line: number, why },
+        Err(Halt::BadLine { why, node }) => Status::BadScript {
+            line: number,
+            why,
+            node,
+        },
         Err(Halt::Limit { which, count }) => Status::Limit { which, count },
         Err(Halt::Memory) => Status::Memory,
     }

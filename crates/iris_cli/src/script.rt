@@ -118,11 +118,9 @@ impl Script {
                 Ok(true)
             }
             Ok(NextLine::Whole) => Err(past(Which::Script, MAX_SCRIPT_BYTES as u64)),
-            Ok(NextLine::End) if first => Err(Halt::BadLine { why: Why::Empty }),
+            Ok(NextLine::End) if first => Err(Halt::bad_line(Why::Empty)),
             Ok(NextLine::End) => Ok(false),
-            Ok(NextLine::Cut) => Err(Halt::BadLine {
-                why: Why::Truncated,
-            }),
+            Ok(NextLine::Cut) => Err(Halt::bad_line(Why::Truncated)),
             Ok(NextLine::Long) if most <= self.room => Err(past(Which::Line, most as u64)),
             Ok(NextLine::Long) => Err(past(Which::Script, MAX_SCRIPT_BYTES as u64)),
             Err(fault) => Err(Halt::of_source(fault)),

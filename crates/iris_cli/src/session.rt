@@ -1,8 +1,9 @@
 //! A city under a script: what is posted and not yet delivered, and what each line brings about.
-ghost use Rattle.std.specs.Prelude.{◌≡◌, [], IfOk, IfErr, OnOk};
+ghost use Rattle.std.specs.Prelude.{◌≡◌, ℕ, List, [], IfOk, IfErr, OnOk, MatchOption};
 ghost use Rattle.iris_base.specs.Outside.{HasCause};
 ghost use Rattle.iris_cli.specs.Acts.{Acts, Writes};
 ghost use Rattle.iris_cli.specs.Run.{out_line, out_lines, all_delivered, after_all, post_out, after_post, Starts};
+ghost use Rattle.iris_cli.specs.Served.{IsServedCity};
 ghost use Rattle.iris_cli.specs.Sessions.{world_of, HasNumbers};
 ghost use Rattle.iris_cli.specs.Stepped.{RefusesCityLine, Stepped};
 
@@ -10,7 +11,7 @@ use crate::event::{Event, Sent};
 use crate::halt::Halt;
 use crate::sink::Sink;
 use crate::site::Site;
-use iris_json::{City, Out, QueryFault, Why, read_city, write_out};
+use iris_json::{City, Out, QueryFault, Show, Why, read_city, write_out};
 use iris_tree::{AgentId, Mem};
 use iris_xpath::Query;
 use std::alloc::Global;
@@ -64,23 +65,30 @@ fn deliver_all<K: Sink>(
     Ok(())
 }
 
+// The agent of a city that is served: its only one, where all lines are shown.
+fn sole_agent(city: &City) -> Option<AgentId>
+    ensures { MatchOption result ((agent : List ℕ) → IsServedCity city.now agent → ⊥) (IsServedCity city.now) }
+{
+    match (city.agents.as_slice(), city.show) {
+        ([agent], Show::All) => Some(*agent),
+        _ => None,
+    }
+}
+
 impl Session {
-    /// The city of a city line, with nothing accepted and nothing posted.
+    /// The city of a city line, with nothing accepted and nothing posted. A city of several agents, or one of
+    /// which the summary alone is shown, is not served yet, and its line refused as one that is of no form.
     pub fn start(alloc: Global, line: &[u8]) -> Result<Session, Halt>
         ensures starts { IfOk result (λ session. Starts line.now (world_of session)) }
         ensures refused { IfErr result (RefusesCityLine line.now) }
     {
-        let City {
-            kinds,
-            agents,
-            tree,
-            ..
-        } = read_city(alloc, line)?;
-        let Some(agent) = agents.as_slice().first() else {
-            return Err(Halt::BadLine { why: Why::Shape });
+        let city = read_city(alloc, line)?;
+        let Some(agent) = sole_agent(&city) else {
+            return Err(Halt::bad_line(Why::Shape));
         };
+        let City { kinds, tree, .. } = city;
         Ok(Session {
-            agent: *agent,
+            agent,
             site: Site::new(alloc, kinds, tree)?,
             posted: VecDeque::new(alloc),
             posts: 0,
@@ -102,7 +110,9 @@ impl Session {
             }
             Sent::Update { .. } => {
                 self.requests = request + 1;
-                return Ok(Out::NoSuchNode { request });
+                return Ok(Out::NoSuchNode {
+                    request: Some(request),
+                });
             }
         };
         self.posted.push_back(Posted { request, sent })?;

@@ -208,7 +208,9 @@ impl Site {
         ensures err { OnErr result (self.new ≡ self.old) }
     {
         let Some(newest) = self.book.newest(&update.name) else {
-            return Ok(Out::NoSuchNode { request });
+            return Ok(Out::NoSuchNode {
+                request: Some(request),
+            });
         };
         let Some(accepted) = newest.version.checked_add(1) else {
             return Err(Memory);

@@ -12,14 +12,23 @@ pub enum Status {
     Done,
     /// The words are not a list that the program takes. Nothing was read or written.
     Usage,
-    /// That line of the script, counted from 1, is the first that is not of its form or has no LF.
-    BadScript { line: u64, why: Why },
+    /// That line of the script, counted from 1, is the first that is not of its form or has no LF. Where
+    /// that is the fault of one node of the city line, `node` is its number, from 0 in the order of the
+    /// line, parents first.
+    BadScript {
+        line: u64,
+        why: Why,
+        node: Option<u32>,
+    },
     /// The source failed.
     ReadFault,
     /// The sink failed.
     WriteFault,
     /// That limit was passed; the count is the least that passes it.
-    Limit { which: Which, count: u64 },
+    Limit {
+        which: Which,
+        count: u64,
+    },
     /// There was no memory.
     Memory,
 }
@@ -45,7 +54,7 @@ impl Status {
         ensures { result ≡ last_out self }
     {
         match self {
-            Status::BadScript { line, why } => Some(Out::Ended { line, why }),
+            Status::BadScript { line, why, node } => Some(Out::Ended { line, why, node }),
             Status::Limit { which, count } => Some(Out::Limit { count, which }),
             _ => None,
         }

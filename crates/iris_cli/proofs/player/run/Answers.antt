@@ -3,7 +3,7 @@ use Rattle.std.proofs.lemmas.Result.{err_from_is_err_and}
 use Rattle.iris_cli.specs.Run.{World, after}
 use Rattle.iris_cli.specs.Sessions.{world_of}
 use Rattle.iris_cli.specs.Stepped.{Stepped}
-use Rattle.iris_cli.proofs.Plays.{so_start, first_taken, so_city, so_line, one_request, next_halts, start_halts, run_halts}
+use Rattle.iris_cli.proofs.Plays.{so_start, first_taken, so_city, so_line, one_request, next_halts, next_ends, start_halts, run_halts}
 use Rattle.iris_cli.proofs.player.run.Goals as goal
 
 pub returns-in_err-next-clause-ran : goal.returns-in_err-next-clause-ran
@@ -73,3 +73,8 @@ returns-in_err-run-clause-ran g c =
     let next = world_of c.run.new.self in
     let step = subst (λ (shown : List ℕ). Stepped world next shown (g.K.Sink.held c.lines.sink) (g.K.Sink.held c.run.new.sink) (Err c.in_err-run.field-0.0)) c.line-in-lines.ensures c.in_err-run.ensures.stepped in
     rw (p.1, p.2) (run_halts _ _ _ _ _ _ _ _ _ world next line _ c.lines.invariant.ran t.0 t.1 t.2 step)
+
+pub returns-clause-ran : goal.returns-clause-ran
+returns-clause-ran g c =
+    let took = rw c.if-branch.false at c.in_ok-next-2.ensures.took in
+    next_ends _ _ _ _ _ c.lines.script c.next-in-lines.new.self (Some (world_of c.lines.session)) c.lines.invariant.ran took

@@ -40,3 +40,11 @@ posts-preserved g c =
       so = delivered_more _ _ _ _ _ _ some.field-0 _ _ _ _ c.posts.invariant.so some.ensures.items c.in_ok-out.ensures.after c.in_ok-out.ensures.told c.in_ok-put.ensures.writes.bytes;
       later = omega (arith, c.posts.invariant.later, c.in_ok-put.ensures.writes.cause.later);
     }
+
+pub posts-preserved-in_ok-put-3 : goal.posts-preserved-in_ok-put-3
+posts-preserved-in_ok-put-3 g c =
+    let some = c.in-Some in
+    record {
+      so = delivered_more _ _ _ _ _ _ some.field-0 _ _ _ _ c.posts.invariant.so some.ensures.items c.in_ok-out.ensures.after c.in_ok-out.ensures.told c.in_ok-put.ensures.writes.bytes;
+      later = omega (arith, c.posts.invariant.later, c.in_ok-put.ensures.writes.cause.later);
+    }

@@ -4,7 +4,7 @@ use Rattle.iris_json.specs.declared.line.Line.{Line}
 use Rattle.iris_json.specs.declared.line.Line.TheVariants as lines
 use Rattle.iris_json.specs.Lines.{ReadsLine}
 use Rattle.iris_cli.specs.declared.event.Event.{Event}
-use Rattle.iris_cli.specs.LineSays.{LineSays}
+use Rattle.iris_cli.specs.LineSays.{LineSays, PostsQuery}
 use Rattle.iris_cli.proofs.Refused.{refused_line}
 use Rattle.iris_cli.proofs.event.Event.read.Goals.{in-Query+in_ok-of_query-in-Query, in-Update, in-Audit+in_ok-of_audit-in-Audit, in-Now, in-Settle}
 use Rattle.iris_cli.proofs.event.Event.read.Goals as goal
@@ -29,9 +29,10 @@ returns-clause-says c =
     let found = c.in_ok-query.ensures.found in
     elim c.match-branch-2.branch [
       | in-Query+in_ok-of_query-in-Query w ↦
-          let reads = read_as line c.in_ok-query.field-0 (lines.Query w.in-Query.query) w.in-Query.is found in
+          let bound = w.in-Query.bound in
+          let reads = read_as line c.in_ok-query.field-0 (lines.Query w.in-Query.query bound) w.in-Query.is found in
           said kinds line w.in_ok-of_query-in-Query.field-0 c.match-branch-2.result w.result-is
-          (w.in_ok-of_query-in-Query.ensures line (subst (λ (t : List ℕ). ReadsLine line (lines.Query t)) (sym w.as_str.ensures) reads))
+          (w.in_ok-of_query-in-Query.ensures line (subst (λ (t : List ℕ). PostsQuery line t) (sym w.as_str.ensures) (bound, reads)))
       | in-Update w ↦ said kinds line _ c.match-branch-2.result w.result-is (read_as line c.in_ok-query.field-0 (lines.Update w.in-Update.name w.in-Update.no w.in-Update.changes) w.in-Update.is found)
       | in-Audit+in_ok-of_audit-in-Audit w ↦
           let reads = read_as line c.in_ok-query.field-0 (lines.Audit w.in-Audit.query) w.in-Audit.is found in
