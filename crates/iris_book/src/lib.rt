@@ -6,8 +6,6 @@ mod entry;
 mod linked;
 mod links;
 mod log;
-#[cfg(test)]
-mod tests;
 mod update;
 mod weights;
 

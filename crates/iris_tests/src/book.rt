@@ -1,6 +1,6 @@
-//! Each public call of the book once, with its answer, in a city of one node without attributes.
+//! The calls of `iris_book`, each once, in a city of one node without attributes.
 
-use crate::{Book, Entry};
+use iris_book::{Book, Entry};
 use iris_tree::{AgentId, Cite, Id, Kind, Label, Local, Name, Sequence, Tree};
 use iris_xpath::parse;
 use std::alloc::Global;
