@@ -14,8 +14,10 @@ def peak_so_far(pid):
         return next((int(line.split()[1]) for line in file if line.startswith("VmHWM:")), 0)
 
 
-def run_measured(command, given):
+def run_measured(command, given, statuses=(0,)):
     """Returns seconds by the clock, of the processor, and peak kilobytes of one run, whose output goes nowhere.
+
+    It has to end with one of the statuses.
 
     The peak is looked up while the program runs: what wait4 tells counts what this script had when it started it.
     """
@@ -30,7 +32,7 @@ def run_measured(command, given):
             peak = max(peak, peak_so_far(process.pid))
             time.sleep(0.002)
         taken = time.perf_counter() - start
-    if status != 0:
+    if os.waitstatus_to_exitcode(status) not in statuses:
         sys.exit(f"{' '.join(command)} ended with status {os.waitstatus_to_exitcode(status)}")
     return taken, usage.ru_utime + usage.ru_stime, peak
 
