@@ -1,6 +1,6 @@
 -- A view: pieces by their names, and which documents agree with it.
 use Rattle.std.specs.Prelude.{◌≡◌, List, map, fold, All, Option, Some, None, IfSome, option_map}
-use Rattle.std.specs.Map.{lookup}
+use Rattle.std.specs.Map.{lookup, keys_of}
 use Rattle.std.specs.BTreeMap.{is_at, insert_entry}
 use Rattle.std.specs.Cmp.Lexicographic.{slice_cmp}
 use Rattle.std.specs.List.Sorted.{IsStrictlySortedBy}
@@ -19,6 +19,10 @@ Pieces = List (List Label × Piece)
 
 abbrev pub AreNamed : Pieces → Type 0
 AreNamed pieces = All (λ entry. entry.0 ≡ entry.1.name) pieces
+
+-- the names rise, so each is there once
+abbrev pub HaveRisingNames : Pieces → Type 0
+HaveRisingNames pieces = IsStrictlySortedBy (slice_cmp label_cmp) (keys_of pieces)
 
 abbrev pub piece_at : Pieces → List Label → Option Piece
 piece_at pieces name = lookup (is_at (slice_cmp label_cmp name)) pieces

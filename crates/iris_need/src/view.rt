@@ -1,6 +1,6 @@
 //! Views: what is known of a document.
 ghost use Rattle.std.specs.Prelude.{◌≡◌, [], Some, None, IfOk, OnOk, OnErr, option_copied, MatchOption};
-ghost use Rattle.iris_need.specs.Pieces.{piece_at, pieces_in, AreOrderedPieces, first_full, with_piece};
+ghost use Rattle.iris_need.specs.Pieces.{piece_at, pieces_in, AreNamed, HaveRisingNames, AreOrderedPieces, first_full, with_piece};
 ghost use Rattle.iris_need.specs.Collected.{full_at};
 
 use iris_fragment::{Full, Piece};
@@ -50,6 +50,15 @@ impl View {
             alloc,
             map: BTreeMap::new(alloc),
         }
+    }
+
+    /// The shape of a view: each piece stands under its own name, and the names rise. It is so of every view.
+    /// This call does nothing.
+    pub fn keeps_shape(&self)
+        ensures named { AreNamed self.now }
+        ensures ordered { HaveRisingNames self.now }
+    {
+        let _ = self.map.len();
     }
 
     /// The piece of that name.
