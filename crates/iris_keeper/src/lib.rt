@@ -4,11 +4,13 @@
 //! what `load` gives; what it does not tell is not known. Whatever it tells is told by its own type.
 #![tactic(auto)]
 
+mod calls;
 mod keeper;
 mod kept;
 mod memory;
 mod nothing;
 
+pub use calls::FailingCalls;
 pub use keeper::Keeper;
 pub use kept::Kept;
 pub use memory::MemoryKeeper;

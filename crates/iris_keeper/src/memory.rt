@@ -1,18 +1,30 @@
 //! A keeper whose rows lie in memory.
-ghost use Rattle.std.specs.Prelude.{◌≡◌, IfOk};
+ghost use Rattle.std.specs.Prelude.{◌≡◌, [], ◌∷◌, ◌++◌, true, Err, IsErr, IfOk, OnOk, OnErr};
 ghost use Rattle.iris_base.specs.Outside.{HasCause};
+ghost use Rattle.iris_keeper.specs.Calls.{fails_now};
 
+use crate::calls::FailingCalls;
 use crate::keeper::Keeper;
 use crate::kept::Kept;
-use iris_tree::{Fault, Mem, Sequence, count_fault};
+use iris_tree::{Fault, Mem, Sequence};
+use std::marker::Model;
 
 /// Rows in memory. It tells them.
 #[derive(Debug, Drop)]
 pub struct MemoryKeeper {
     rows: Sequence<Kept>,
-    fails: Vec<u64>,
-    calls: u64,
-    faults: u64,
+    calls: FailingCalls,
+}
+
+impl Model for MemoryKeeper {
+    ghost use Rattle.iris_keeper.specs.contracts.kept.Kept as kept_type;
+    ghost use Rattle.iris_keeper.specs.Calls.{RowsInMemory, rows_code};
+
+    ghost Value = { RowsInMemory };
+
+    ghost coded = { rows_code kept_type.the_row.coded };
+
+    ghost view = { λ k. record { rows = k.rows; calls = k.calls } };
 }
 
 // A copy of a list of rows, by the same allocator.
@@ -31,13 +43,11 @@ impl MemoryKeeper {
     /// over both, stand in `fails` change nothing and answer `Failed`.
     pub fn new(rows: Sequence<Kept>, fails: Vec<u64>) -> MemoryKeeper
         ensures rows { ⟦<MemoryKeeper as Keeper>⟧.rows result rows }
-        ensures faults { ⟦<MemoryKeeper as Keeper>⟧.faults result ≡ 0 }
+        ensures calls { result.calls ≡ record { fails = fails.items; made = 0; faults = 0 } }
     {
         MemoryKeeper {
             rows,
-            fails,
-            calls: 0,
-            faults: 0,
+            calls: FailingCalls::new(fails),
         }
     }
 
@@ -46,19 +56,6 @@ impl MemoryKeeper {
         ensures { ⟦<MemoryKeeper as Keeper>⟧.rows self.now result.now }
     {
         self.rows.as_slice()
-    }
-
-    // Counts a call, and whether it is to fail.
-    fn begin(&mut self) -> Result<(), Fault>
-        ensures rows { self.new.rows ≡ self.old.rows }
-        ensures cause { HasCause Fault.Failed self.old.faults self.new.faults result }
-    {
-        let fails = self.fails.contains(&self.calls);
-        self.calls = self.calls.saturating_add(1);
-        if fails {
-            return Err(count_fault(&mut self.faults));
-        }
-        Ok(())
     }
 }
 
@@ -69,14 +66,20 @@ impl Keeper for MemoryKeeper {
 
     ghost gives = { λ keeper rows. rows ≡ keeper.rows };
 
-    ghost faults = { λ keeper. keeper.faults };
+    ghost faults = { λ keeper. keeper.calls.faults };
 
     ghost one = { λ keeper a b is was. is ∙ sym was };
 
     ghost rows_given = { λ keeper a told. told };
 
-    fn append(&mut self, row: &Kept) -> Result<(), Fault> {
-        self.begin()?;
+    fn append(&mut self, row: &Kept) -> Result<(), Fault>
+        ensures cause { HasCause Fault.Failed self.old.calls.faults self.new.calls.faults result }
+        ensures added { OnOk result (self.new.rows ≡ self.old.rows ++ row.now ∷ []) }
+        ensures kept { OnErr result (self.new.rows ≡ self.old.rows) }
+        ensures only { result ≡ Err Fault.Failed → fails_now self.old.calls ≡ true }
+        ensures failed { fails_now self.old.calls ≡ true → IsErr result }
+    {
+        self.calls.begin()?;
         let Ok(row) = row.copy() else {
             return Err(Fault::Memory);
         };
@@ -86,8 +89,14 @@ impl Keeper for MemoryKeeper {
         }
     }
 
-    fn load(&mut self) -> Result<Sequence<Kept>, Fault> {
-        self.begin()?;
+    fn load(&mut self) -> Result<Sequence<Kept>, Fault>
+        ensures cause { HasCause Fault.Failed self.old.calls.faults self.new.calls.faults result }
+        ensures loaded { IfOk result (λ found. found ≡ self.old.rows) }
+        ensures kept { self.new.rows ≡ self.old.rows }
+        ensures only { result ≡ Err Fault.Failed → fails_now self.old.calls ≡ true }
+        ensures failed { fails_now self.old.calls ≡ true → IsErr result }
+    {
+        self.calls.begin()?;
         match copy_rows(&self.rows) {
             Ok(rows) => Ok(rows),
             Err(_) => Err(Fault::Memory),
