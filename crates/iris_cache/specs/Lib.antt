@@ -1,0 +1,4 @@
+pub mod Order
+pub mod Ready
+pub mod Recency
+pub mod Stored
