@@ -1,0 +1,4 @@
+pub mod Kept
+pub mod Noted
+pub mod Owning
+pub mod Parking
