@@ -1,0 +1,17 @@
+pub mod Agreeing
+pub mod Between
+pub mod Gathered
+pub mod LaidAt
+pub mod Left
+pub mod Life
+pub mod Numbered
+pub mod Once
+pub mod Rising
+pub mod Rounds
+pub mod Same
+pub mod Stand
+pub mod Under
+pub mod Indexed
+pub mod Lookups
+pub mod Passing
+pub mod Changed
