@@ -1,5 +1,5 @@
 -- Once a view took what an evaluation over another one rests on, it tells the same as the other.
-use Rattle.std.proofs.Common.{◌≡◌, Bool, true, false, cond, not, ◌&&◌, List, [], ◌∷◌, map, filter, All, Contains, Option, Some, None, is_some, IfSome, option_map, option_and_then, refl, sym, ◌∙◌, ap, subst}
+use Rattle.std.proofs.Common.{◌≡◌, Bool, true, false, cond, not, ◌&&◌, List, [], ◌∷◌, map, filter, All, Contains, ◌⊎◌, inl, inr, Option, Some, None, is_some, IfSome, option_map, option_and_then, refl, sym, ◌∙◌, ap, subst, arith}
 use Rattle.std.specs.List.{cons_option, filter_map}
 use Rattle.std.proofs.lemmas.List.Elements.{All-nil, All-cons, All-head, All-tail}
 use Rattle.std.specs.BTreeMap.{is_at}
@@ -23,7 +23,7 @@ use Rattle.iris_need.proofs.Asked.{decided_meets, seen_under, level_named}
 use Rattle.iris_need.proofs.Laid.{found_with, same_name}
 use Rattle.iris_need.proofs.Pieces.{names_cmp, piece_named}
 use Rattle.iris_need.proofs.Restricted.{same_run, filter_same, alike_met}
-use Rattle.iris_need.proofs.Run.{contains_first, contains_later}
+use Rattle.iris_need.proofs.Run.{contains_first, contains_later, first_or_later}
 use Rattle.iris_need.proofs.Supported.{support_meets}
 
 -- ---- parts of views
@@ -103,6 +103,22 @@ each_of {Y = Y} P g (x ∷ xs) f = one (g x) (f x (contains_first x xs)) (each_o
     one : (o : Option Y) → IfSome o P → All P (filter_map g xs) → All P (cons_option o (filter_map g xs))
     one None h rest = rest
     one (Some z) h rest = All-cons P z (filter_map g xs) h rest
+
+-- of each image that is so, if it is so of all
+pub image_is : {X Y : Type 0} (P : Y → Type 0) (g : X → Option Y) (xs : List X) (x : X) (y : Y) → All P (filter_map g xs) → Contains xs x → g x ≡ Some y → P y
+image_is P g [] x y all there is = absurd (omega (arith, there.1))
+image_is {Y = Y} P g (first ∷ xs) x y all there is = elim (first_or_later first xs x there) [
+  | inl same ↦ here (g first) (ap g same ∙ is) all
+  | inr later ↦ image_is P g xs x y (rest (g first) all) later is
+]
+  where
+    here : (o : Option Y) → o ≡ Some y → All P (cons_option o (filter_map g xs)) → P y
+    here None e h = absurd (cc)
+    here (Some z) e h = let same : z ≡ y = cc in subst P same (All-head P z (filter_map g xs) h)
+
+    rest : (o : Option Y) → All P (cons_option o (filter_map g xs)) → All P (filter_map g xs)
+    rest None h = h
+    rest (Some z) h = All-tail P z (filter_map g xs) h
 
 pieces_within : (over : Pieces) (needs : List Need) → AreNamed over → All (λ piece. PieceBelow (Some piece) (piece_at over piece.name)) (pieces_for over needs)
 pieces_within over needs named = each_of (λ piece. PieceBelow (Some piece) (piece_at over piece.name)) (λ need. option_map (at_level need.level) (piece_at over need.name)) needs (λ need there. by need.level need.name (piece_at over need.name) refl)

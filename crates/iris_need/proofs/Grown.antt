@@ -4,7 +4,6 @@ use Rattle.std.specs.List.{AllByRecursion}
 use Rattle.std.specs.List.Sorted.{IsStrictlySortedBy}
 use Rattle.std.specs.declared.cmp.Ordering.TheVariants.{Less, Equal}
 use Rattle.std.proofs.lemmas.List.{map-append, take_all, length-append, length-map}
-use Rattle.std.proofs.lemmas.List.Elements.{All-contains}
 use Rattle.std.proofs.Math.Seq.{take-suc}
 use Rattle.iris_base.specs.declared.name.Label.{Label}
 use Rattle.iris_base.specs.NameOrder.{label_cmp}
@@ -18,15 +17,18 @@ use Rattle.iris_tree.specs.NodeCode.{nodes_of-list_of}
 use Rattle.iris_tree.specs.Universe.{Node, node, Nodes, no_nodes, nodes_of, list_of, label_of, local_of, children_of, labels_of, ids_of, child_of, node_at, insert_node, with_child, IsOrdered, AreOrdered}
 use Rattle.iris_tree.proofs.Siblings.{list_of-nodes_of, labels_sorted, found_at, node_parts, greater, not_equal}
 use Rattle.iris_need.specs.declared.need.Need.{Need}
+use Rattle.iris_need.specs.Decided.{at_level}
 use Rattle.iris_need.specs.HeldParts.{level_at, local_held, local_told, nodes_held, held_part, held_below, AreBefore, IsHeldAt}
 use Rattle.iris_need.specs.Pieces.{Pieces, piece_at, known_of, view_of, IsLocalOf, IsPieceAt}
 use Rattle.iris_need.specs.Program.{room}
 use Rattle.iris_need.specs.Run.{no_local, meets_known}
+use Rattle.iris_need.proofs.Asked.{level_named}
+use Rattle.iris_need.proofs.Deciding.{image_is}
 use Rattle.iris_need.proofs.Documents.{AllStand, child_at, children_stand, room_is, standing}
 use Rattle.iris_need.proofs.HeldParts.{held_child, held_label, children_held}
 use Rattle.iris_need.proofs.Items.{none_below}
 use Rattle.iris_need.proofs.Levels.{level_from}
-use Rattle.iris_need.proofs.Pieces.{found_there}
+use Rattle.iris_need.proofs.Pieces.{piece_named}
 
 -- ---- the last child
 
@@ -75,32 +77,47 @@ part_labels needs name (n ∷ ns) = ap (λ (l : Label). l ∷ labels_of (map (he
 
 -- ---- what the view tells of a node
 
-piece_of_node : (document : Node) (view : Pieces) (needs : List Need) (name : List Label) (n : Node) (piece : Piece) → IsHeldAt document view needs name n → piece_at view name ≡ Some piece → (piece.ids ≡ ids_of n) × IsLocalOf n piece.full
-piece_of_node document view needs name n piece h found =
-    let is : IsPieceAt document name piece = All-contains (λ entry. IsPieceAt document entry.0 entry.1) view (name, piece) h.agrees (found_there view name piece found) in
-    let same : is.0 ≡ n = by is.0 is.1 in
-    (is.2 ∙ ap ids_of same, subst (λ (m : Node). IsLocalOf m piece.full) same is.3)
+-- what a piece has as far as a level asks
+level_ids : (level : Level) (piece : Piece) → (at_level level piece).ids ≡ piece.ids
+level_ids Ids piece = refl
+level_ids Full piece = refl
+
+level_local : (level : Level) (piece : Piece) (n : Node) → IsLocalOf n (at_level level piece).full → level ≡ Full → IsLocalOf n piece.full
+level_local Ids piece n h full = absurd (cc)
+level_local Full piece n h full = h
+
+piece_of_node : (document : Node) (view : Pieces) (needs : List Need) (name : List Label) (n : Node) (level : Level) (piece : Piece) → IsHeldAt document view needs name n → level_at needs name ≡ Some level → piece_at view name ≡ Some piece
+    → (piece.ids ≡ ids_of n) × (level ≡ Full → IsLocalOf n piece.full)
+piece_of_node document view needs name n level piece h at found =
+    let need = level_from needs name level at in
+    let told : Piece = at_level level piece in
+    let has : option_map (at_level need.0.level) (piece_at view need.0.name) ≡ Some told =
+    ap (λ (l : Level). option_map (at_level l) (piece_at view need.0.name)) need.3 ∙ ap (λ (m : List Label). option_map (at_level level) (piece_at view m)) need.2 ∙ ap (option_map (at_level level)) found in
+    let is : IsPieceAt document told.name told = image_is (λ p. IsPieceAt document p.name p) (λ x. option_map (at_level x.level) (piece_at view x.name)) needs need.0 told h.agrees need.1 has in
+    let named : told.name ≡ name = level_named level piece ∙ piece_named view name piece h.named found in
+    let same : is.0 ≡ n = by is.0 (ap (node_at document) (sym named) ∙ is.1) in
+    (sym (level_ids level piece) ∙ is.2 ∙ ap ids_of same, level_local level piece n (subst (λ (m : Node). IsLocalOf m told.full) same is.3))
   where
     by : (m : Node) → node_at document name ≡ Some m → m ≡ n
     by m there = let both : Some m ≡ Some n = sym there ∙ h.there in cc
 
 -- the ids of the piece are the labels of the node's children
-pub piece_ids : (document : Node) (view : Pieces) (needs : List Need) (name : List Label) (n : Node) (piece : Piece) → IsHeldAt document view needs name n → piece_at view name ≡ Some piece → piece.ids ≡ labels_of (children_of n)
-piece_ids document view needs name n piece h found = (piece_of_node document view needs name n piece h found).0
+pub piece_ids : (document : Node) (view : Pieces) (needs : List Need) (name : List Label) (n : Node) (level : Level) (piece : Piece) → IsHeldAt document view needs name n → level_at needs name ≡ Some level → piece_at view name ≡ Some piece → piece.ids ≡ labels_of (children_of n)
+piece_ids document view needs name n level piece h at found = (piece_of_node document view needs name n level piece h at found).0
 
 met_at : (document : Node) (view : Pieces) (needs : List Need) (name : List Label) (n : Node) (level : Level) → IsHeldAt document view needs name n → level_at needs name ≡ Some level → meets_known level (view_of view name) ≡ true
 met_at document view needs name n level h at =
     let need = level_from needs name level at in
     subst (λ (l : Level). meets_known l (view_of view name) ≡ true) need.3 (subst (λ (m : List Label). meets_known need.0.level (view_of view m) ≡ true) need.2 (h.met need.0 need.1))
 
-told_is : (level : Level) (full : Option FullPart) (n : Node) (ids : List Label) → IsLocalOf n full → meets_known level (Some (record { ids = ids; local = option_map (λ (f : FullPart). f.local) full })) ≡ true → local_told level full ≡ local_held (Some level) (local_of n)
+told_is : (level : Level) (full : Option FullPart) (n : Node) (ids : List Label) → (level ≡ Full → IsLocalOf n full) → meets_known level (Some (record { ids = ids; local = option_map (λ (f : FullPart). f.local) full })) ≡ true → local_told level full ≡ local_held (Some level) (local_of n)
 told_is Ids full n ids h m = refl
 told_is Full None n ids h m = absurd (cc)
-told_is Full (Some f) n ids h m = h
+told_is Full (Some f) n ids h m = h refl
 
 local_is : (document : Node) (view : Pieces) (needs : List Need) (name : List Label) (n : Node) (level : Level) (piece : Piece) → IsHeldAt document view needs name n → level_at needs name ≡ Some level → piece_at view name ≡ Some piece → local_told level piece.full ≡ local_held (level_at needs name) (local_of n)
 local_is document view needs name n level piece h at found =
-    told_is level piece.full n piece.ids (piece_of_node document view needs name n piece h found).1
+    told_is level piece.full n piece.ids (piece_of_node document view needs name n level piece h at found).1
     (subst (λ (o : Option Piece). meets_known level (option_map known_of o) ≡ true) found (met_at document view needs name n level h at))
     ∙ ap (λ (o : Option Level). local_held o (local_of n)) (sym at)
 
@@ -181,7 +198,7 @@ next_child document view needs name n ids i x d h same lt is =
     let found : child_of x ns ≡ Some c = found_at ns x i n rise inside (equal_labels (label_of c) x label_is) in
     record {
       child = c;
-      held = record { is = h.is; agrees = h.agrees; met = h.met; there = child_at document name x n h.there ∙ found };
+      held = record { is = h.is; named = h.named; agrees = h.agrees; met = h.met; there = child_at document name x n h.there ∙ found };
       label = label_is;
       before = subst (λ (l : Label). AreBefore (labels_of (take i ns)) l) label_is (labels_before ns i n rise inside);
       taken = rw add-one (take-suc ns i n inside);

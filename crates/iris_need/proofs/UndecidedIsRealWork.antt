@@ -37,6 +37,10 @@ piece_below document name (Some piece) h =
     let local : local_of is.0 ≡ local_in document name = sym (ap (λ o. option_map_or local_of o no_local) is.1) in
     (is.2 ∙ ids, local_below piece.full is.0 (local_in document name) is.3 local)
 
+-- a view whose pieces are so of a document knows less than all of it
+pub told_below : (document : Node) (view : Pieces) → ((name : List Label) (piece : Piece) → piece_at view name ≡ Some piece → IsPieceAt document name piece) → Below (view_of view) (all_of document)
+told_below document view each name = piece_below document name (piece_at view name) (each name)
+
 -- the pieces of a view know less than the whole document
 pub pieces_below : (document : Node) (pieces : Pieces) → Agrees document pieces → Below (view_of pieces) (all_of document)
 pieces_below document pieces agrees name = piece_below document name (piece_at pieces name) (λ piece found.

@@ -11,8 +11,9 @@ use Rattle.iris_fragment.specs.declared.piece.Full.{Full as FullPart}
 use Rattle.iris_fragment.specs.declared.piece.Level.{Level}
 use Rattle.iris_fragment.specs.declared.piece.Level.TheVariants.{Ids, Full}
 use Rattle.iris_need.specs.declared.need.Need.{Need}
+use Rattle.iris_need.specs.Decided.{pieces_for}
 use Rattle.iris_need.specs.Documents.{IsDocument}
-use Rattle.iris_need.specs.Pieces.{Pieces, view_of, Agrees}
+use Rattle.iris_need.specs.Pieces.{Pieces, AreNamed, view_of, AgreesWith}
 use Rattle.iris_need.specs.Run.{no_local, meets}
 
 -- the level of the need for a name
@@ -46,10 +47,11 @@ abbrev mutual
   held_below needs name no_nodes = no_nodes
   held_below needs name (nodes n ns) = nodes (held_part needs (name ++ label_of n ∷ []) n) (held_below needs name ns)
 
--- a node of a document that agrees with a view, which meets the needs
+-- a node of a document that agrees with what a view has for the needs, which it meets
 pub record IsHeldAt (document : Node) (view : Pieces) (needs : List Need) (name : List Label) (n : Node) : Type 0 where
   pub is : IsDocument document
-  pub agrees : Agrees document view
+  pub named : AreNamed view
+  pub agrees : AgreesWith document (pieces_for view needs)
   pub met : (need : Need) → Contains needs need → meets (view_of view) need ≡ true
   pub there : node_at document name ≡ Some n
 

@@ -78,3 +78,7 @@ IsPieceAt document name piece = (n : Node) × (node_at document name ≡ Some n)
 -- the document agrees with the view
 abbrev pub Agrees : Node → Pieces → Type 0
 Agrees document pieces = All (λ entry. IsPieceAt document entry.0 entry.1) pieces
+
+-- the document agrees with each of these pieces
+abbrev pub AgreesWith : Node → List Piece → Type 0
+AgreesWith document pieces = All (λ piece. IsPieceAt document piece.name piece) pieces

@@ -40,7 +40,7 @@ loop-child-preserved t c =
     record {
       tree = λ document n held same.
           let next = next_child document view needs name n c.as_slice-child-items.result.now c.loop-child.child-index c.child-item.result c.child-item.result held
-          (c.as_slice-child-items.ensures ∙ piece_ids document view needs name n c.in-Some.piece.now held c.in-Some.ensures.1) c.loop-child-test.true c.child-item.is in
+          (c.as_slice-child-items.ensures ∙ piece_ids document view needs name n c.in-Some.level c.in-Some.piece.now held c.in-Some.ensures.0 c.in-Some.ensures.1) c.loop-child-test.true c.child-item.is in
           let below : c.in_ok-below.below ≡ held_part needs (name ++ c.child-item.result ∷ []) next.child =
           c.in_ok-below.ensures.tree document next.child (subst (λ (m : List Label). IsHeldAt document view needs m next.child) (sym pushed) next.held) next.label ∙ ap (λ (m : List Label). held_part needs m next.child) pushed in
           let grown = c.loop-child.invariant.tree document n held same in
@@ -52,4 +52,4 @@ loop-child-preserved t c =
 pub returns-clause-tree : goal.returns-clause-tree
 returns-clause-tree t c = λ document n held same.
     grown_done c.args.self.now.needs.now c.args.name.now n c.loop-child.tree c.as_slice-child-items.result.now c.in-Some.level c.loop-child.child-index c.in-Some.ensures.0
-    (c.as_slice-child-items.ensures ∙ piece_ids document c.args.self.now.view.now c.args.self.now.needs.now c.args.name.now n c.in-Some.piece.now held c.in-Some.ensures.1) c.loop-child-test.false (c.loop-child.invariant.tree document n held same)
+    (c.as_slice-child-items.ensures ∙ piece_ids document c.args.self.now.view.now c.args.self.now.needs.now c.args.name.now n c.in-Some.level c.in-Some.piece.now held c.in-Some.ensures.0 c.in-Some.ensures.1) c.loop-child-test.false (c.loop-child.invariant.tree document n held same)
