@@ -16,11 +16,12 @@ use Rattle.iris_fragment.specs.declared.piece.Level.TheVariants as level
 use Rattle.iris_fragment.specs.declared.piece.Piece.{Piece}
 use Rattle.iris_fragment.specs.Contents.{Nodes, Contents, held_at}
 use Rattle.iris_fragment.specs.Shape.{HaveRisingNames}
-use Rattle.iris_fragment.specs.Usable.{is_usable, full_held, full_piece, piece_of, usable_piece}
+use Rattle.iris_fragment.specs.Usable.{is_usable, is_usable_in, usable, full_held, full_piece, piece_of, held_piece, usable_piece}
 use Rattle.iris_need.specs.Pieces.{Pieces, piece_at, joined_pieces, with_piece, laid_over}
 use Rattle.iris_need.proofs.Laid.{found_with, same_name}
 use Rattle.iris_need.proofs.Pieces.{names_cmp}
 use Rattle.iris_gather.specs.Laid.{laid, usable_at, joined_with}
+use Rattle.iris_gather.specs.Taking.{level_up_to}
 
 -- a full piece has the name under which the node is held
 full_named : (name ids : List Label) (full : Option Full) (piece : Piece) → option_map (full_piece name ids) full ≡ Some piece → piece.name ≡ name
@@ -85,3 +86,34 @@ found floor now (e ∷ es) view name sorted = found_more floor now e es view nam
 -- what a laid view has of a node
 pub laid_at : (f : Contents) (floor now : ℕ) (view : Pieces) (name : List Label) → HaveRisingNames f.nodes → piece_at (laid f floor now view) name ≡ joined_with (piece_at view name) (usable_at f floor now name)
 laid_at f floor now view name sorted = found floor now f.nodes view name sorted
+
+-- of a node that the view has
+pub laid_joined : (f : Contents) (floor now : ℕ) (view : Pieces) (name : List Label) → HaveRisingNames f.nodes → (held copy : Piece) (usable : Option Piece) (joined : Piece)
+    → Some held ≡ piece_at view name → copy ≡ held → usable ≡ usable_at f floor now name → Some joined ≡ joined_with (Some copy) usable → Some joined ≡ piece_at (laid f floor now view) name
+laid_joined f floor now view name rising held copy usable joined at same is joins =
+    joins ∙ ap (λ (p : Piece). joined_with (Some p) usable) same ∙ ap (λ (u : Option Piece). joined_with (Some held) u) is ∙ ap (λ (o : Option Piece). joined_with o (usable_at f floor now name)) at
+    ∙ sym (laid_at f floor now view name rising)
+
+-- of one that it doesn't have
+pub laid_alone : (f : Contents) (floor now : ℕ) (view : Pieces) (name : List Label) → HaveRisingNames f.nodes → (usable : Option Piece) → None ≡ piece_at view name → usable ≡ usable_at f floor now name → usable ≡ piece_at (laid f floor now view) name
+laid_alone f floor now view name rising usable at is =
+    is ∙ alone (usable_at f floor now name) ∙ ap (λ (o : Option Piece). joined_with o (usable_at f floor now name)) at ∙ sym (laid_at f floor now view name rising)
+  where
+    alone : (u : Option Piece) → u ≡ joined_with None u
+    alone None = refl
+    alone (Some piece) = refl
+
+-- ---- what is held, at the greater level at which it is usable
+
+greatest_taken : (name : List Label) (node : HeldNode) (now : ℕ) (b : Bool) → piece_of name node (level_up_to level.Full b) now ≡ option_and_then (λ l. piece_of name node l now) (cond b (Some level.Full) (Some level.Ids))
+greatest_taken name node now true = refl
+greatest_taken name node now false = refl
+
+held_usable : (name : List Label) (held : Option HeldNode) (floor now : ℕ)
+    → option_and_then (λ node. piece_of name node (level_up_to level.Full (is_usable_in held level.Full floor)) now) held ≡ option_and_then (λ node. usable_piece floor now (name, node)) held
+held_usable name None floor now = refl
+held_usable name (Some node) floor now = greatest_taken name node now (is_usable node.part level.Full floor)
+
+-- it is what is usable
+pub greatest_usable : (f : Contents) (floor now : ℕ) (name : List Label) (l : Level) → l ≡ level_up_to level.Full (usable f name level.Full floor) → held_piece f name l now ≡ usable_at f floor now name
+greatest_usable f floor now name l is = ap (λ (m : Level). held_piece f name m now) is ∙ held_usable name (held_at f.nodes name) floor now

@@ -1,5 +1,5 @@
-pub mod Agreeing
 pub mod Between
+pub mod FirstChanged
 pub mod Gathered
 pub mod LaidAt
 pub mod Left
@@ -9,8 +9,10 @@ pub mod Once
 pub mod Rising
 pub mod Rounds
 pub mod Same
+pub mod SameParts
 pub mod Stand
 pub mod Under
+pub mod Validated
 pub mod Indexed
 pub mod Lookups
 pub mod Passing

@@ -1,5 +1,5 @@
 -- Where nothing is left to take for what is missing, a part of the laid view tells the same as all of it.
-use Rattle.std.proofs.Common.{◌≡◌, Bool, true, false, cond, not, ◌&&◌, ℕ, List, [], ◌∷◌, map, filter, All, Contains, Option, Some, None, is_some, option_map, option_and_then, refl, sym, ◌∙◌, ap, subst}
+use Rattle.std.proofs.Common.{◌≡◌, Bool, true, false, cond, not, ◌&&◌, ℕ, List, [], ◌∷◌, map, filter, All, Contains, Option, Some, None, is_some, option_map, refl, sym, ◌∙◌, ap, subst}
 use Rattle.std.specs.List.{cons_option, filter_map}
 use Rattle.std.proofs.lemmas.List.Elements.{All-contains}
 use Rattle.iris_base.specs.declared.name.Label.{Label}
@@ -58,11 +58,11 @@ unknown_ids : (k : Option Known) → meets_known level.Ids k ≡ false → ids_k
 unknown_ids None h = refl
 unknown_ids (Some k) h = absurd (cc)
 
-unmet_alike : (l : Level) (k m : Option Known) → meets_known l k ≡ false → meets_known l m ≡ false → IsAlike l k m
+pub unmet_alike : (l : Level) (k m : Option Known) → meets_known l k ≡ false → meets_known l m ≡ false → IsAlike l k m
 unmet_alike level.Ids k m h j = unknown_ids k h ∙ sym (unknown_ids m j)
 unmet_alike level.Full k m h j = unknown_full k h ∙ sym (unknown_full m j)
 
-nothing_alike : (l : Level) → IsAlike l None None
+pub nothing_alike : (l : Level) → IsAlike l None None
 nothing_alike level.Ids = refl
 nothing_alike level.Full = refl
 
@@ -105,12 +105,12 @@ met_same : (start : Start) (over all : Pieces) (ls : List Need) → AreAlike (se
     → (look : Need) → Contains ls look → meets (seen_from start.name (view_of all)) look ≡ meets (seen_from start.name (view_of over)) look
 met_same start over all ls alike look there = alike_met look.level (seen_from start.name (view_of over) look.name) (seen_from start.name (view_of all) look.name) (alike look there)
 
-alike_missing : (query : Syntax) (start : Start) (over all : Pieces) → AreAlike (seen_from start.name (view_of over)) (seen_from start.name (view_of all)) (looks query start (view_of over)) → missing_of query start all ≡ missing_of query start over
+pub alike_missing : (query : Syntax) (start : Start) (over all : Pieces) → AreAlike (seen_from start.name (view_of over)) (seen_from start.name (view_of all)) (looks query start (view_of over)) → missing_of query start all ≡ missing_of query start over
 alike_missing query start over all alike =
     ap (λ (o : Out (List Item)). merged (filter (is_missing start (view_of all)) o.log)) (same_run (seen_from start.name (view_of over)) (seen_from start.name (view_of all)) (program query start) alike)
     ∙ ap merged (filter_same (is_missing start (view_of over)) (is_missing start (view_of all)) (looks query start (view_of over)) (λ look there. ap (λ (b : Bool). is_under look.name start.name && not b) (met_same start over all (looks query start (view_of over)) alike look there)))
 
-alike_support : (query : Syntax) (start : Start) (over all : Pieces) → AreAlike (seen_from start.name (view_of over)) (seen_from start.name (view_of all)) (looks query start (view_of over)) → support_of query start all ≡ support_of query start over
+pub alike_support : (query : Syntax) (start : Start) (over all : Pieces) → AreAlike (seen_from start.name (view_of over)) (seen_from start.name (view_of all)) (looks query start (view_of over)) → support_of query start all ≡ support_of query start over
 alike_support query start over all alike =
     ap (λ (o : Out (List Item)). merged (map without_states (filter (meets (seen_from start.name (view_of all))) o.log))) (same_run (seen_from start.name (view_of over)) (seen_from start.name (view_of all)) (program query start) alike)
     ∙ ap (λ (ls : List Need). merged (map without_states ls)) (filter_same (meets (seen_from start.name (view_of over))) (meets (seen_from start.name (view_of all))) (looks query start (view_of over)) (met_same start over all (looks query start (view_of over)) alike))
@@ -129,11 +129,6 @@ level_same level.Full None a h m = absurd (cc)
 level_same l (Some p) None h m = absurd h
 level_same level.Ids (Some p) (Some q) h m = λ i. Some (record { name = h.0 i; ids = h.1 i; full = None })
 level_same level.Full (Some p) (Some q) h m = λ i. Some (record { name = h.0 i; ids = h.1 i; full = full_same p.full q.full h.2 m i })
-
-part_same : (o a : Option Piece) → IsWithin o a → meets_known level.Full (option_map known_of o) ≡ true → option_and_then (λ (p : Piece). p.full) o ≡ option_and_then (λ (p : Piece). p.full) a
-part_same None a h m = absurd (cc)
-part_same (Some p) None h m = absurd h
-part_same (Some p) (Some q) h m = full_same p.full q.full h.2 m
 
 -- images that are the same of each element
 images_same : {X Y : Type 0} (g h : X → Option Y) (xs : List X) → ((x : X) → Contains xs x → g x ≡ h x) → filter_map g xs ≡ filter_map h xs
@@ -154,7 +149,6 @@ tells_same query start f floor now view over rising between none = record {
   support = sym support;
   pieces = images_same (λ need. option_map (at_level need.level) (piece_at over need.name)) (λ need. option_map (at_level need.level) (piece_at all need.name)) (support_of query start all)
       (λ need there. level_same need.level (piece_at over need.name) (piece_at all need.name) (within need.name) (met need there));
-  full = λ need there full. part_same (piece_at over need.name) (piece_at all need.name) (within need.name) (subst (λ l. meets_known l (view_of over need.name) ≡ true) full (met need there));
 }
   where
     all : Pieces

@@ -4,6 +4,7 @@ use Rattle.std.specs.List.{filter_map}
 use Rattle.iris_base.specs.declared.name.Label.{Label}
 use Rattle.iris_base.specs.declared.cite.Cite.{Cite}
 use Rattle.iris_fragment.specs.declared.piece.Full.{Full}
+use Rattle.iris_fragment.specs.declared.piece.Piece.{Piece}
 use Rattle.iris_xpath.specs.Syntax.{Syntax}
 use Rattle.iris_need.specs.declared.need.Start.{Start}
 use Rattle.iris_need.specs.Decided.{full_part_at}
@@ -13,6 +14,10 @@ use Rattle.iris_need.specs.Pieces.{Pieces}
 -- the cite of a full part of the node of that name
 abbrev pub cite_of : List Label → Full → Cite
 cite_of name full = record { name = name; version = full.version; stamp = full.stamp }
+
+-- the cites of these pieces, of those that are full
+abbrev pub cites_told : List Piece → List Cite
+cites_told pieces = filter_map (λ piece. option_map (cite_of piece.name) piece.full) pieces
 
 -- cites of these nodes as a view has them, where it has them in full
 abbrev pub cites_in : Pieces → List (List Label) → List Cite

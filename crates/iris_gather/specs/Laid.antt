@@ -1,14 +1,12 @@
 -- A view laid over what of a fragment is usable.
-use Rattle.std.specs.Prelude.{◌≡◌, ℕ, List, Contains, Option, Some, None, option_and_then}
+use Rattle.std.specs.Prelude.{◌≡◌, ℕ, List, Option, Some, None, option_and_then}
 use Rattle.iris_base.specs.declared.name.Label.{Label}
-use Rattle.iris_fragment.specs.declared.piece.Level.TheVariants.{Full}
 use Rattle.iris_fragment.specs.declared.piece.Piece.{Piece}
 use Rattle.iris_fragment.specs.Contents.{Contents, held_at}
 use Rattle.iris_fragment.specs.Usable.{usable_piece, usable_pieces}
 use Rattle.iris_xpath.specs.Syntax.{Syntax}
-use Rattle.iris_need.specs.declared.need.Need.{Need}
 use Rattle.iris_need.specs.declared.need.Start.{Start}
-use Rattle.iris_need.specs.Decided.{pieces_for, full_part_at, IsPartOfView}
+use Rattle.iris_need.specs.Decided.{pieces_for, IsPartOfView}
 use Rattle.iris_need.specs.Needs.{missing_of, support_of}
 use Rattle.iris_need.specs.Pieces.{Pieces, joined_pieces, laid_over}
 
@@ -29,10 +27,9 @@ joined_with old (Some piece) = Some (joined_pieces old piece)
 
 -- ---- a part that tells the same
 
--- A part of a view over which an evaluation tells the same: what is missing, what it rests on, the pieces of that, and the full parts with their versions and stamps.
+-- A part of a view over which an evaluation tells the same: what is missing, what it rests on, and the pieces of that.
 pub record TellsSame (query : Syntax) (start : Start) (over all : Pieces) : Type 0 where
   pub part : IsPartOfView over all
   pub missing : missing_of query start over ≡ missing_of query start all
   pub support : support_of query start over ≡ support_of query start all
   pub pieces : pieces_for over (support_of query start all) ≡ pieces_for all (support_of query start all)
-  pub full : (need : Need) → Contains (support_of query start all) need → need.level ≡ Full → full_part_at over need.name ≡ full_part_at all need.name

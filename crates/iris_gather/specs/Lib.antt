@@ -1,7 +1,9 @@
 pub mod Basis
+pub mod Equal
 pub mod Gathers
-pub mod Laid
-pub mod Taking
 pub mod Indices
+pub mod Laid
 pub mod OpenGathers
+pub mod Taking
+pub mod Validation
 pub mod Verdicts

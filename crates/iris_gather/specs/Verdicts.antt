@@ -6,23 +6,25 @@ use Rattle.iris_tree.specs.Universe.{Node, label_of}
 use Rattle.iris_tree.specs.declared.item.Item.{Item}
 use Rattle.iris_xpath.specs.Meaning.{selected}
 use Rattle.iris_xpath.specs.Syntax.{Syntax}
+use Rattle.iris_fragment.specs.declared.piece.Piece.{Piece}
+use Rattle.iris_need.specs.Decided.{pieces_for}
 use Rattle.iris_need.specs.Documents.{IsDocument, HasIdsAtNodesAlone}
 use Rattle.iris_need.specs.Needs.{missing_of, support_of}
-use Rattle.iris_need.specs.Pieces.{Pieces, Agrees}
+use Rattle.iris_need.specs.Pieces.{Pieces, AgreesWith}
 use Rattle.iris_need.specs.declared.need.Need.{Need}
 use Rattle.iris_need.specs.declared.need.Start.{Start}
 use Rattle.iris_gather.specs.declared.verdict.Verdict.{Verdict}
 use Rattle.iris_gather.specs.declared.verdict.Verdict.TheVariants.{Done, Asks}
 
--- the view determines these items: they are what the query selects in every document with that top node that agrees with the view, where nodes alone have ids
-abbrev pub AreDetermined : Syntax → Label → Pieces → List Item → Type 0
-AreDetermined query top view items = (document : Node) → IsDocument document → HasIdsAtNodesAlone document → label_of document ≡ top → Agrees document view → items ≡ items_at document (selected document query)
+-- the pieces determine these items: they are what the query selects in every document with that top node that agrees with the pieces, where nodes alone have ids
+abbrev pub AreDetermined : Syntax → Label → List Piece → List Item → Type 0
+AreDetermined query top pieces items = (document : Node) → IsDocument document → HasIdsAtNodesAlone document → label_of document ≡ top → AgreesWith document pieces → items ≡ items_at document (selected document query)
 
--- Nothing is missing, and this is what the evaluation rests on, and what the query selects where the start is the document.
+-- Nothing is missing, and this is what the evaluation rests on, and what the query selects where the start is the document: the pieces of what it rests on determine it.
 pub record IsDone (query : Syntax) (start : Start) (view : Pieces) (support : List Need) (items : List Item) : Type 0 where
   pub whole : missing_of query start view ≡ []
   pub support_is : support ≡ support_of query start view
-  pub items_are : start.name ≡ [] → AreDetermined query start.top view items
+  pub items_are : start.name ≡ [] → AreDetermined query start.top (pieces_for view (support_of query start view)) items
   pub no_items : start.name ≢ [] → items ≡ []
 
 -- Something is missing: this, and the other is what the evaluation rests on.

@@ -1,17 +1,17 @@
 //! What a gather decides over its view and the usable part of a fragment, and what that rests on.
-ghost use Rattle.std.specs.Prelude.{◌≡◌, ◌++◌, ◌∷◌, [], IfOk, OnOk, option_map, option_to_list};
-ghost use Rattle.iris_need.specs.Decided.{at_level, pieces_for, full_part_at};
-ghost use Rattle.iris_need.specs.Needs.{from_document, missing_of, support_of, full_part};
-ghost use Rattle.iris_need.specs.Pieces.{piece_at};
-ghost use Rattle.iris_gather.specs.Basis.{cite_of, cites_in, cites_of};
+ghost use Rattle.std.specs.Prelude.{◌≡◌, [], IfOk, option_map};
+ghost use Rattle.iris_need.specs.Decided.{pieces_for};
+ghost use Rattle.iris_need.specs.Needs.{from_document, support_of};
+ghost use Rattle.iris_gather.specs.Basis.{cite_of, cites_told, cites_of};
 ghost use Rattle.iris_gather.specs.Laid.{laid};
-ghost use Rattle.iris_gather.specs.Verdicts.{IsVerdict, asks_of, rests_on};
+ghost use Rattle.iris_gather.specs.Verdicts.{IsVerdict};
 
+use crate::laid_view::{LaidView, add};
 use crate::usable::Usable;
 use crate::verdict::{Verdict, evaluate};
-use iris_fragment::{Fragment, Level, Piece};
-use iris_need::{Need, Start, View};
-use iris_tree::{Cite, Mem, Name, Sequence};
+use iris_fragment::{Fragment, Piece};
+use iris_need::{Start, View};
+use iris_tree::{Cite, Mem, Sequence};
 use iris_xpath::Query;
 use std::alloc::Global;
 
@@ -25,87 +25,46 @@ pub struct Basis {
     pub cites: Sequence<Cite>,
 }
 
-// A copy of a piece as far as a level asks.
-fn piece_at_level(piece: &Piece, level: Level) -> Mem<Piece>
-    ensures { IfOk result (λ part. part ≡ at_level level piece.now) }
+// The cite of a piece, if it is full.
+fn cite(piece: &Piece) -> Mem<Option<Cite>>
+    ensures { IfOk result (λ cite. cite ≡ option_map (cite_of piece.now.name) piece.now.full) }
 {
-    let mut part = piece.copy()?;
-    if level == Level::Ids {
-        part.full = None;
-    }
-    Ok(part)
-}
-
-// The piece of a need, where the view has one of its name.
-fn piece_for(view: &View, need: &Need) -> Mem<Option<Piece>>
-    ensures { IfOk result (λ piece. piece ≡ option_map (at_level need.now.level) (piece_at view.now need.now.name)) }
-{
-    match view.get(&need.name) {
-        Some(piece) => Ok(Some(piece_at_level(piece, need.level)?)),
-        None => Ok(None),
-    }
-}
-
-// Adds what is there.
-fn add<T: Drop>(items: &mut Vec<T>, item: Option<T>) -> Mem<()>
-    ensures { OnOk result (items.new.items ≡ items.old.items ++ option_to_list item) }
-{
-    if let Some(item) = item {
-        items.push(item)?;
-    }
-    Ok(())
-}
-
-// The pieces of these needs as a view has them, each as far as its level asks.
-fn pieces_of(alloc: Global, view: &View, needs: &[Need]) -> Mem<Vec<Piece>>
-    ensures { IfOk result (λ pieces. pieces.items ≡ pieces_for view.now needs.now) }
-{
-    let mut pieces = Vec::new(alloc);
-    for need in needs {
-        add(&mut pieces, piece_for(view, need)?)?;
-    }
-    Ok(pieces)
-}
-
-// The cite of a node, where the view has it in full.
-fn cite(view: &View, name: &Name) -> Mem<Option<Cite>>
-    ensures { IfOk result (λ cite. cite ≡ option_map (cite_of name.now) (full_part_at view.now name.now)) }
-{
-    let Some(piece) = view.get(name) else {
-        return Ok(None);
-    };
     let Some(full) = &piece.full else {
         return Ok(None);
     };
     Ok(Some(Cite {
-        name: name.copy()?,
+        name: piece.name.copy()?,
         version: full.version,
         stamp: full.stamp,
     }))
 }
 
-// Adds the cite of a need of level Full.
-fn add_cite(view: &View, need: &Need, cites: &mut Vec<Cite>) -> Mem<()>
-    ensures { OnOk result (cites.new.items ≡ cites.old.items ++ cites_in view.now (full_part (need.now ∷ []))) }
-{
-    if need.level == Level::Full {
-        add(cites, cite(view, &need.name)?)?;
-    }
-    Ok(())
-}
-
-// The cites of the needs of level Full, as a view has them.
-fn cites(alloc: Global, view: &View, needs: &[Need]) -> Mem<Vec<Cite>>
-    ensures { IfOk result (λ cites. cites.items ≡ cites_in view.now (full_part needs.now)) }
+// The cites of these pieces, of those that are full.
+fn cites(alloc: Global, pieces: &[Piece]) -> Mem<Vec<Cite>>
+    ensures { IfOk result (λ cites. cites.items ≡ cites_told pieces.now) }
 {
     let mut cites = Vec::new(alloc);
-    for need in needs {
-        add_cite(view, need, &mut cites)?;
+    for piece in pieces {
+        add(&mut cites, cite(piece)?)?;
     }
     Ok(cites)
 }
 
 impl Basis {
+    /// A verdict with the pieces that it rests on, and their cites.
+    pub(crate) fn with_pieces(alloc: Global, verdict: Verdict, pieces: Vec<Piece>) -> Mem<Basis>
+        ensures verdict { IfOk result (λ basis. basis.verdict ≡ verdict) }
+        ensures pieces { IfOk result (λ basis. basis.pieces ≡ pieces.items) }
+        ensures cites { IfOk result (λ basis. basis.cites ≡ cites_told pieces.items) }
+    {
+        let cites = cites(alloc, &pieces)?;
+        Ok(Basis {
+            verdict,
+            pieces: Sequence::from_vec(pieces),
+            cites: Sequence::from_vec(cites),
+        })
+    }
+
     /// The verdict of a query from a start over the view laid over what of the fragment is usable for the
     /// floor, and what it rests on there. A start at the document is that of a client's query. `floor` and
     /// the present moment `now` are in milliseconds; an owned value is stamped with `now`. It costs what the
@@ -130,15 +89,10 @@ impl Basis {
             moment: now,
         };
         let over = usable.part_seen(alloc, query, start, view)?;
-        over.keeps_shape();
         let verdict = evaluate(alloc, query, start, &over)?;
-        let support = verdict.support();
-        let pieces = pieces_of(alloc, &over, support)?;
-        let cites = cites(alloc, &over, support)?;
-        Ok(Basis {
-            verdict,
-            pieces: Sequence::from_vec(pieces),
-            cites: Sequence::from_vec(cites),
-        })
+        let laid = LaidView { view, usable };
+        let pieces = laid.pieces(alloc, verdict.support())?;
+        view.keeps_shape();
+        Ok(Basis::with_pieces(alloc, verdict, pieces)?)
     }
 }

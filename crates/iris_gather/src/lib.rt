@@ -6,7 +6,9 @@
 //! nothing is pending, the query is evaluated again.
 //!
 //! What a decision rests on, `Basis`, is that of the gather's view laid over what the agent holds and may use;
-//! it is found without laying all of that.
+//! it is found without laying all of that. A verdict of an evaluation that was made elsewhere, over the view
+//! as it was laid earlier, is taken where `Basis::validate` tells that it still holds: it reads what the
+//! verdict looks at, and evaluates nothing.
 //!
 //! `Gathers` has all open gathers of an agent, and finds them by their numbers, by what is pending at them,
 //! and by the requests and asks for which they are made.
@@ -15,15 +17,18 @@
 mod basis;
 mod basis_laws;
 mod entries;
+mod equal;
 mod error;
 mod gather;
 mod gathers;
 mod index;
 mod indices;
 mod laid;
+mod laid_view;
 mod laws;
 mod parent;
 mod usable;
+mod validation;
 mod verdict;
 
 pub use basis::Basis;
@@ -36,4 +41,5 @@ pub use laws::{
     asks_are_made_once, gathers_are_opened, gathers_go_on, replies_tell_what_was_asked,
 };
 pub use parent::Parent;
+pub use validation::Evaluated;
 pub use verdict::{Verdict, evaluate};

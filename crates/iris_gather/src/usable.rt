@@ -1,10 +1,12 @@
 //! The part of a laid view at which an evaluation looks, made without laying the whole fragment.
 ghost use Rattle.std.specs.Prelude.{◌≡◌, ◌<◌, None, All, IfOk, is_some, option_to_list};
 ghost use Rattle.std.specs.Bool.{OnTrue, OnFalse};
+ghost use Rattle.iris_fragment.specs.declared.piece.Level.TheVariants as level;
+ghost use Rattle.iris_fragment.specs.Usable.{usable};
 ghost use Rattle.iris_need.specs.Pieces.{Pieces, view_of, laid_over};
 ghost use Rattle.iris_need.specs.Run.{meets_known};
-ghost use Rattle.iris_gather.specs.Laid.{laid, TellsSame};
-ghost use Rattle.iris_gather.specs.Taking.{level_taken, piece_taken, levels_left, IsBetween};
+ghost use Rattle.iris_gather.specs.Laid.{laid, usable_at, TellsSame};
+ghost use Rattle.iris_gather.specs.Taking.{level_up_to, level_taken, piece_taken, levels_left, IsBetween};
 
 use iris_fragment::{Fragment, Level, Piece};
 use iris_need::{Need, Start, View, missing};
@@ -31,14 +33,32 @@ fn has(view: &View, name: &Name, level: Level) -> bool
 }
 
 impl<'f> Usable<'f> {
+    // The greater level at which a node is usable, if it is held.
+    fn greatest(&self, name: &Name) -> Level
+        ensures { result ≡ level_up_to level.Full (usable self.now.fragment.now name.now level.Full self.now.floor) }
+    {
+        if self.fragment.usable(name, Level::Full, self.floor) {
+            Level::Full
+        } else {
+            Level::Ids
+        }
+    }
+
+    /// The piece of the node of that name, at the greater level at which it is usable; none where it is not
+    /// held.
+    pub(crate) fn piece(&self, name: &Name) -> Mem<Option<Piece>>
+        ensures { IfOk result (λ piece. piece ≡ usable_at self.now.fragment.now self.now.floor self.now.moment name.now) }
+    {
+        self.fragment.piece(name, self.greatest(name), self.moment)
+    }
+
     // The greater level, up to that of a need, at which its node is usable, if it is held.
     fn level(&self, need: &Need) -> Level
         ensures { result ≡ level_taken self.now.fragment.now self.now.floor need.now }
     {
-        if need.level == Level::Full && self.fragment.usable(&need.name, Level::Full, self.floor) {
-            Level::Full
-        } else {
-            Level::Ids
+        match need.level {
+            Level::Full => self.greatest(&need.name),
+            Level::Ids => Level::Ids,
         }
     }
 

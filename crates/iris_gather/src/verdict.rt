@@ -1,6 +1,7 @@
 //! Verdicts: what an evaluation decides.
 ghost use Rattle.std.specs.Prelude.{◌≡◌, ◌≢◌, [], IfOk};
-ghost use Rattle.iris_need.specs.Needs.{from_document, missing_of};
+ghost use Rattle.iris_need.specs.Decided.{pieces_for};
+ghost use Rattle.iris_need.specs.Needs.{from_document, missing_of, support_of};
 ghost use Rattle.iris_gather.specs.Verdicts.{AreDetermined, IsVerdict, asks_of, rests_on};
 
 use iris_need::{Need, Start, View, answer_of, missing, support};
@@ -28,7 +29,45 @@ pub enum Verdict {
     },
 }
 
+// A copy of a list of needs, by the same allocator.
+fn copy_needs(needs: &Sequence<Need>) -> Mem<Sequence<Need>>
+    ensures { IfOk result (λ copy. copy ≡ needs.now) }
+{
+    let mut copy = Sequence::new(needs.allocator());
+    for need in needs.as_slice() {
+        copy.push(need.copy()?)?;
+    }
+    Ok(copy)
+}
+
+// A copy of a list of items, by the same allocator.
+fn copy_items(items: &Sequence<Item>) -> Mem<Sequence<Item>>
+    ensures { IfOk result (λ copy. copy ≡ items.now) }
+{
+    let mut copy = Sequence::new(items.allocator());
+    for item in items.as_slice() {
+        copy.push(item.copy()?)?;
+    }
+    Ok(copy)
+}
+
 impl Verdict {
+    /// A copy, by the same allocator.
+    pub fn copy(&self) -> Mem<Verdict>
+        ensures { IfOk result (λ copy. copy ≡ self.now) }
+    {
+        Ok(match self {
+            Verdict::Done { support, items } => Verdict::Done {
+                support: copy_needs(support)?,
+                items: copy_items(items)?,
+            },
+            Verdict::Asks { support, missing } => Verdict::Asks {
+                support: copy_needs(support)?,
+                missing: copy_needs(missing)?,
+            },
+        })
+    }
+
     /// What the evaluation rests on, in the order of names.
     pub fn support(&self) -> &[Need]
         ensures { result.now ≡ rests_on self.now }
@@ -54,7 +93,7 @@ impl Verdict {
 fn items_of(alloc: Global, query: &Query, start: &Start, view: &View) -> Mem<Vec<Item>>
     requires whole { missing_of query.now start.now view.now ≡ [] }
     requires client { start.now.name ≡ [] → start.now ≡ from_document start.now.top }
-    ensures document { IfOk result (λ items. start.now.name ≡ [] → AreDetermined query.now start.now.top view.now items.items) }
+    ensures document { IfOk result (λ items. start.now.name ≡ [] → AreDetermined query.now start.now.top (pieces_for view.now (support_of query.now start.now view.now)) items.items) }
     ensures node { IfOk result (λ items. start.now.name ≢ [] → items.items ≡ []) }
 {
     if start.name.is_document() {

@@ -1,7 +1,6 @@
 use Rattle.std.proofs.Common.{◌≡◌, ◌++◌, drop}
-use Rattle.iris_need.specs.Needs.{full_part}
-use Rattle.iris_gather.specs.Basis.{cites_in}
+use Rattle.iris_gather.specs.Basis.{cites_told}
 use Rattle.iris_gather.proofs.basis.cites.Given as goal
 
-abbrev pub invariant-loop-need : goal.invariant-loop-need
-invariant-loop-need l = l.cites.items ++ cites_in l.view (full_part (drop l.need-index l.needs)) ≡ cites_in l.view (full_part l.needs)
+abbrev pub invariant-loop-piece : goal.invariant-loop-piece
+invariant-loop-piece l = l.cites.items ++ cites_told (drop l.piece-index l.pieces) ≡ cites_told l.pieces
