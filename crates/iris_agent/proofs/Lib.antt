@@ -1,0 +1,13 @@
+mod Above
+mod ArrivalTies
+mod CommitTies
+mod EventTies
+mod GiveTies
+mod HandoverTies
+mod MayOpens
+mod NodeTies
+mod Judged
+mod Retained
+mod StartTies
+mod TableTies
+mod UpdateTies
