@@ -1,0 +1,10 @@
+pub mod Locals
+pub mod Ids
+pub mod Times
+pub mod Fragments
+pub mod Caches
+pub mod FragmentPieces
+pub mod Added
+pub mod Seen
+pub mod Citing
+pub mod Answered

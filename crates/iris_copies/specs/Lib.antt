@@ -1,0 +1,4 @@
+pub mod Allowed
+pub mod Cited
+pub mod Copies
+pub mod Views
