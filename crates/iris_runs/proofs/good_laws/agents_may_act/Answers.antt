@@ -1,0 +1,35 @@
+use Rattle.iris_runs.proofs.Acting.{number_is_free, ask_is_free, each_waits_once, unmet_unserved, handover_fits, may_be_handled, newest_is_owned, owner_owns, may_start, missing_routed, missing_lower}
+use Rattle.iris_runs.proofs.good_laws.agents_may_act.Goals as goal
+
+pub returns-clause-free : goal.returns-clause-free
+returns-clause-free c = number_is_free
+
+pub returns-clause-free_asks : goal.returns-clause-free_asks
+returns-clause-free_asks c = ask_is_free
+
+pub returns-clause-once : goal.returns-clause-once
+returns-clause-once c = each_waits_once
+
+pub returns-clause-ask : goal.returns-clause-ask
+returns-clause-ask c = unmet_unserved
+
+pub returns-clause-handover : goal.returns-clause-handover
+returns-clause-handover c = handover_fits
+
+pub returns-clause-handled : goal.returns-clause-handled
+returns-clause-handled c = may_be_handled
+
+pub returns-clause-book : goal.returns-clause-book
+returns-clause-book c = newest_is_owned
+
+pub returns-clause-owned : goal.returns-clause-owned
+returns-clause-owned c = owner_owns
+
+pub returns-clause-starts : goal.returns-clause-starts
+returns-clause-starts c = may_start
+
+pub returns-clause-routed : goal.returns-clause-routed
+returns-clause-routed c = missing_routed
+
+pub returns-clause-fits : goal.returns-clause-fits
+returns-clause-fits c = missing_lower

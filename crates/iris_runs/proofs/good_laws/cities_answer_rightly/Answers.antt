@@ -1,0 +1,18 @@
+use Rattle.iris_runs.proofs.AnswersAllowed.{answers_later, answers_forgotten}
+use Rattle.iris_runs.proofs.AnswersRight.{delivered_answers, decided_answers, given_answers}
+use Rattle.iris_runs.proofs.good_laws.cities_answer_rightly.Goals as goal
+
+pub returns-clause-arrival : goal.returns-clause-arrival
+returns-clause-arrival c = delivered_answers
+
+pub returns-clause-decision : goal.returns-clause-decision
+returns-clause-decision c = decided_answers
+
+pub returns-clause-given : goal.returns-clause-given
+returns-clause-given c = given_answers
+
+pub returns-clause-advanced : goal.returns-clause-advanced
+returns-clause-advanced c w moment later right = answers_later w.history w.turn.now moment later right
+
+pub returns-clause-forgotten : goal.returns-clause-forgotten
+returns-clause-forgotten c w stays = answers_forgotten w.history w.turn.now

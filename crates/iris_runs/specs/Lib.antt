@@ -1,0 +1,11 @@
+pub mod Acting
+pub mod Alike
+pub mod Answers
+pub mod Asking
+pub mod Depths
+pub mod Good
+pub mod Happenings
+pub mod Letters
+pub mod Moments
+pub mod Starts
+pub mod Worlds
