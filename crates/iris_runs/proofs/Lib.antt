@@ -34,3 +34,4 @@ pub mod StayArrived
 pub mod StayGood
 pub mod AnswersRight
 pub mod StartGood
+pub mod AtRest

@@ -7,5 +7,6 @@ pub mod Good
 pub mod Happenings
 pub mod Letters
 pub mod Moments
+pub mod Rest
 pub mod Starts
 pub mod Worlds

@@ -29,6 +29,7 @@ ghost use Rattle.iris_runs.specs.Answers.{AnswersRightly};
 ghost use Rattle.iris_runs.specs.Alike.{MayBeHandled, IsWaitedFor, WaitsOnce};
 ghost use Rattle.iris_runs.specs.Good.{Past, IsGood};
 ghost use Rattle.iris_runs.specs.Happenings.{query_posted, update_posted, delivered, decided, lent_there, given, evicted_at, advanced, forgotten};
+ghost use Rattle.iris_runs.specs.Rest.{IsStill, IsAtRest};
 ghost use Rattle.iris_runs.specs.Starts.{IsStart};
 ghost use Rattle.iris_runs.specs.Letters.{rank_of, need_of, letter_of, agent_of};
 ghost use Rattle.iris_runs.specs.Worlds.{Sent, World, owner_of};
@@ -128,4 +129,11 @@ pub fn cities_answer_rightly()
     ensures given { (w : World) (name : List Label) (to : List ℕ) → AnswersRightly w → AnswersRightly (given w name to) }
     ensures advanced { (w : World) (moment : ℕ) → w.turn.now ≤ moment → AnswersRightly w → AnswersRightly (advanced w moment) }
     ensures forgotten { (w : World) (stays : List ℕ → ℕ → Bool) → AnswersRightly (forgotten w stays) }
+{}
+
+/// Where every kept post was delivered and no gather is due or lent, a good city is at rest: each node is with
+/// the agent that the registry names, no gather is open, nothing is parked, and each request has its outcome.
+/// So nothing that was asked is left unanswered. This call does nothing.
+pub fn still_cities_are_at_rest()
+    ensures { (w : World) (past : Past) → IsGood w past → IsStill w → IsAtRest w }
 {}
