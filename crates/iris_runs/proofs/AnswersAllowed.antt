@@ -1,8 +1,8 @@
 -- The answers in a book stay allowed.
-use Rattle.std.proofs.Common.{◌≡◌, ℕ, ◌≤◌, Bool, true, false, List, [], ◌∷◌, ◌++◌, filter, append-nil, refl, sym, subst, arith}
+use Rattle.std.proofs.Common.{◌≡◌, ℕ, ◌≤◌, Bool, true, false, List, [], ◌∷◌, ◌++◌, All, filter, append-nil, refl, sym, subst, arith}
 use Rattle.std.proofs.lemmas.Bool.{false≢true}
 use Rattle.std.proofs.lemmas.List.{append_assoc}
-use Rattle.std.proofs.lemmas.List.Elements.{All-weaker}
+use Rattle.std.proofs.lemmas.List.Elements.{All-head, All-tail, All-weaker}
 use Rattle.iris_base.specs.declared.cite.Cite.{Cite}
 use Rattle.iris_tree.specs.declared.item.Item.{Item}
 use Rattle.iris_xpath.specs.Syntax.{Syntax}
@@ -56,6 +56,13 @@ after_filter h now earlier (e ∷ es) = go (is_lasting e) refl (after_filter h n
     go : (lasts : Bool) → is_lasting e ≡ lasts → AreAllowedAfter h now (earlier ++ e ∷ []) (filter is_lasting es) → AreAllowedAfter h now earlier (filter is_lasting es) → AreAllowedAfter h now earlier (filter is_lasting (e ∷ es))
     go true is with_it without_it = rw is (lasting_allowed (history_of h earlier) now e is, with_it)
     go false is with_it without_it = rw is without_it
+
+after_lasting : (h : History) (now : ℕ) (earlier es : List Entry) → All (λ e. is_lasting e ≡ true) es → AreAllowedAfter h now earlier es
+after_lasting h now earlier [] all = tt
+after_lasting h now earlier (e ∷ es) all = (lasting_allowed (history_of h earlier) now e (All-head (λ other. is_lasting other ≡ true) e es all), after_lasting h now (earlier ++ e ∷ []) es (All-tail (λ other. is_lasting other ≡ true) e es all))
+
+pub none_answered : (h : History) (now : ℕ) → All (λ e. is_lasting e ≡ true) h.entries → AreAnswersAllowed h now
+none_answered h now all = after_lasting h now [] h.entries all
 
 pub nothing_answered : (h : History) (now : ℕ) → h.entries ≡ [] → AreAnswersAllowed h now
 nothing_answered h now e = subst (AreAllowedAfter h now []) (sym e) tt

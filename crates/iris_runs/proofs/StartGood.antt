@@ -6,73 +6,72 @@ use Rattle.iris_base.specs.declared.name.Label.{Label}
 use Rattle.iris_fragment.specs.declared.piece.Level.TheVariants as level
 use Rattle.iris_migrate.specs.declared.key.Key.TheVariants as keys
 use Rattle.iris_migrate.specs.Messages.{node_of}
-use Rattle.iris_migrate.specs.Titles.{empty_seat, owned_seat, is_parked}
+use Rattle.iris_migrate.specs.Titles.{empty_seat, with_last, is_parked}
 use Rattle.iris_gather.specs.OpenGathers.{serves_ask}
 use Rattle.iris_agent.specs.Tables.{Tables}
-use Rattle.iris_copies.proofs.Times.{present_first}
-use Rattle.iris_copies.specs.Copies.{IsPresent}
 use Rattle.iris_protocol.proofs.Runs.{start_good}
 use Rattle.iris_protocol.specs.Program as protocol_programs
 use Rattle.iris_protocol.specs.Program.{Program, Known}
 use Rattle.iris_protocol.specs.Table.{AgentId, agents}
 use Rattle.iris_protocol.specs.World as model
+use Rattle.iris_protocol.specs.World.{entries, last_number}
 use Rattle.iris_runs.specs.Good.{Past, KnowsItsAsks, IsPostAt, IsGood, moment_of}
 use Rattle.iris_runs.specs.Letters.{agent_of, gather_of, seat_of}
 use Rattle.iris_runs.specs.Moments.{Wanted, IsGatherAt, IsMessageAt, IsAgentAt}
-use Rattle.iris_runs.specs.Starts.{IsAgentStart, IsStart}
-use Rattle.iris_runs.specs.Worlds.{World, owner_of, post_of, program_of}
+use Rattle.iris_runs.specs.Starts.{KeptUpdates, IsAgentStart, IsStart}
+use Rattle.iris_runs.specs.Worlds.{World, owner_of, epoch_of, post_of, program_of}
 
 -- ---- by the protocol
 
-seat_begun : (owns : Bool) → model.start_seat owns 0 ≡ seat_of (if owns then owned_seat else empty_seat)
-seat_begun true = refl
-seat_begun false = refl
+seat_seen : (rows : KeptUpdates) (name : List Label) (owns : Bool) → model.start_seat owns (last_number name (entries rows)) ≡ seat_of (if owns then with_last empty_seat (last_number name (entries rows)) else empty_seat)
+seat_seen rows name true = refl
+seat_seen rows name false = refl
 
-agent_begun : (w : World) (a : AgentId) (t : Tables) → IsAgentStart w a t
-    → record { seat = λ name. model.start_seat (agents.same a (owner_of w.registry name)) 0; gather = λ number. None; knows = λ ask. false } ≡ agent_of t
+agent_begun : (rows : KeptUpdates) (w : World) (a : AgentId) (t : Tables) → IsAgentStart rows w a t
+    → record { seat = λ name. model.start_seat (agents.same a (owner_of w.registry name)) (last_number name (entries rows)); gather = λ number. None; knows = λ ask. false } ≡ agent_of t
 unfolding agent_of
-agent_begun w a t is = λ i. record {
-  seat = λ name. (seat_begun (agents.same a (owner_of w.registry name)) ∙ sym (ap seat_of (is.seats name))) i;
+agent_begun rows w a t is = λ i. record {
+  seat = λ name. (seat_seen rows name (agents.same a (owner_of w.registry name)) ∙ sym (ap seat_of (is.seats name))) i;
   gather = λ number. sym (ap (option_map gather_of) (is.gathers number)) i;
   knows = λ ask. sym (is.asked ask) i;
 }
 
-program_begun : (w : World) → IsStart w → protocol_programs.program_of (model.start (owner_of w.registry) (λ name. 0) []) ≡ program_of w []
+program_begun : (rows : KeptUpdates) (w : World) → IsStart rows w → protocol_programs.program_of (model.start (owner_of w.registry) (epoch_of w.registry) rows) ≡ program_of w (entries rows)
 unfolding program_of
-program_begun w is = λ i. record {
+program_begun rows w is = λ i. record {
   owner = owner_of w.registry;
-  epoch = λ name. sym (is.epochs name) i;
-  agent = λ a. agent_begun w a (w.agent a) (is.agents_are a) i;
+  epoch = epoch_of w.registry;
+  agent = λ a. agent_begun rows w a (w.agent a) (is.agents_are a) i;
   posted = record { post = λ k. sym (ap (option_map post_of) (is.post k)) i; seen = λ k. sym (is.seen k) i; posts = sym is.posts i };
   closed = λ request. sym (is.closed request) i;
   requests = sym is.requests i;
   next_gather = sym is.next_gather i;
   next_ask = sym is.next_ask i;
-  book = [];
+  book = entries rows;
 }
 
 -- ---- what agents hold
 
-nothing_parked : (w : World) (a : AgentId) (t : Tables) (name : List Label) → IsAgentStart w a t → (t.seat name).parked ≡ []
-nothing_parked w a t name is = ap (λ seat. seat.parked) (is.seats name) ∙ either (agents.same a (owner_of w.registry name))
+nothing_parked : (rows : KeptUpdates) (w : World) (a : AgentId) (t : Tables) (name : List Label) → IsAgentStart rows w a t → (t.seat name).parked ≡ []
+nothing_parked rows w a t name is = ap (λ seat. seat.parked) (is.seats name) ∙ either (agents.same a (owner_of w.registry name))
   where
-    either : (owns : Bool) → (if owns then owned_seat else empty_seat).parked ≡ []
+    either : (owns : Bool) → (if owns then with_last empty_seat (last_number name (entries rows)) else empty_seat).parked ≡ []
     either true = refl
     either false = refl
 
-agent_right : (w : World) (wanted : ℕ → Wanted) (a : AgentId) (t : Tables) → IsAgentStart w a t → IsAgentAt (moment_of w wanted) t
-agent_right w wanted a t is = record {
+agent_right : (rows : KeptUpdates) (w : World) (wanted : ℕ → Wanted) (a : AgentId) (t : Tables) → IsAgentStart rows w a t → IsAgentAt (moment_of w wanted) t
+agent_right rows w wanted a t is = record {
   top = is.top;
   copies = is.copies;
   orderly = is.orderly;
   owns = is.owns;
   gathers = λ number. subst (λ one. IfSome one (λ there. IsGatherAt (moment_of w wanted) there.gather)) (sym (is.gathers number)) tt;
-  parked = λ name. subst (All (IsMessageAt (moment_of w wanted))) (sym (nothing_parked w a t name is)) (All-nil (IsMessageAt (moment_of w wanted)));
-  placed = λ name. subst (All (λ message. node_of message ≡ Some name)) (sym (nothing_parked w a t name is)) (All-nil (λ message. node_of message ≡ Some name));
+  parked = λ name. subst (All (IsMessageAt (moment_of w wanted))) (sym (nothing_parked rows w a t name is)) (All-nil (IsMessageAt (moment_of w wanted)));
+  placed = λ name. subst (All (λ message. node_of message ≡ Some name)) (sym (nothing_parked rows w a t name is)) (All-nil (λ message. node_of message ≡ Some name));
 }
 
-agent_knows : (w : World) (a : AgentId) (t : Tables) → IsAgentStart w a t → KnowsItsAsks t
-agent_knows w a t is = record {
+agent_knows : (rows : KeptUpdates) (w : World) (a : AgentId) (t : Tables) → IsAgentStart rows w a t → KnowsItsAsks t
+agent_knows rows w a t is = record {
   opened = λ number ask serves. absurd (false≢true (sym (ap (serves_ask ask) (is.gathers number)) ∙ serves));
   parked = λ name ask parked. absurd (false≢true (sym (not_parked name ask) ∙ parked));
   apart = λ name ask number parked. absurd (false≢true (sym (not_parked name ask) ∙ parked));
@@ -81,26 +80,26 @@ agent_knows w a t is = record {
     not_parked : (name : List Label) (ask : ℕ) → is_parked (t.seat name) (Some (keys.Ask ask)) ≡ false
     not_parked name ask = ap (λ seat. is_parked seat (Some (keys.Ask ask))) (is.seats name) ∙ either (agents.same a (owner_of w.registry name))
       where
-        either : (owns : Bool) → is_parked (if owns then owned_seat else empty_seat) (Some (keys.Ask ask)) ≡ false
+        either : (owns : Bool) → is_parked (if owns then with_last empty_seat (last_number name (entries rows)) else empty_seat) (Some (keys.Ask ask)) ≡ false
         either true = refl
         either false = refl
 
 -- ---- all
 
-abbrev past_begun : Past
-past_begun = record { accepted = []; wanted = λ ask. record { floor = 0; name = []; level = level.Ids } }
+abbrev past_begun : KeptUpdates → Past
+past_begun rows = record { accepted = entries rows; wanted = λ ask. record { floor = 0; name = []; level = level.Ids } }
 
-pub begun_good : (w : World) → IsStart w → (past : Past) × IsGood w past
-begun_good w is = (
-  past_begun,
+pub begun_good : (rows : KeptUpdates) (w : World) → IsStart rows w → (past : Past) × IsGood w past
+begun_good rows w is = (
+  past_begun rows,
   record {
-    known = record { world = model.start (owner_of w.registry) (λ name. 0) []; is = program_begun w is; good = start_good (owner_of w.registry) (λ name. 0) [] };
-    present = subst (λ es. IsPresent (record { start = w.history.start; entries = es }) w.turn.now) (sym is.entries) (present_first w.history.start w.turn.now is.document is.no_ids);
+    known = record { world = model.start (owner_of w.registry) (epoch_of w.registry) rows; is = program_begun rows w is; good = start_good (owner_of w.registry) (epoch_of w.registry) rows };
+    present = is.present;
     labels = is.labels;
     ids = λ a. (is.agents_are a).id_is;
-    agents = λ a. agent_right w past_begun.wanted a (w.agent a) (is.agents_are a);
-    asks = λ a. agent_knows w a (w.agent a) (is.agents_are a);
+    agents = λ a. agent_right rows w (past_begun rows).wanted a (w.agent a) (is.agents_are a);
+    asks = λ a. agent_knows rows w a (w.agent a) (is.agents_are a);
     registered = is.registered;
-    posts = λ k. subst (λ sent. IfSome sent (IsPostAt w past_begun.wanted)) (sym (is.post k)) tt;
+    posts = λ k. subst (λ sent. IfSome sent (IsPostAt w (past_begun rows).wanted)) (sym (is.post k)) tt;
   },
 )

@@ -30,7 +30,7 @@ ghost use Rattle.iris_runs.specs.Alike.{MayBeHandled, IsWaitedFor, WaitsOnce};
 ghost use Rattle.iris_runs.specs.Good.{Past, IsGood};
 ghost use Rattle.iris_runs.specs.Happenings.{query_posted, update_posted, delivered, decided, lent_there, given, evicted_at, advanced, forgotten};
 ghost use Rattle.iris_runs.specs.Rest.{IsStill, IsAtRest};
-ghost use Rattle.iris_runs.specs.Starts.{IsStart};
+ghost use Rattle.iris_runs.specs.Starts.{KeptUpdates, IsStart};
 ghost use Rattle.iris_runs.specs.Letters.{rank_of, need_of, letter_of, agent_of};
 ghost use Rattle.iris_runs.specs.Worlds.{Sent, World, owner_of};
 
@@ -60,11 +60,11 @@ pub fn agents_may_act()
         → Fits (rank_of one.gather.start) (map need_of (missing_of one.gather.query one.gather.start (laid (w.agent a).cache.contents one.gather.floor w.turn.now one.gather.view))) }
 {}
 
-/// A city as it starts is good, and no answer in its book is wrong, since there is none. This call does
-/// nothing.
+/// A city as it starts is good, with rows that were kept before or without: its owners have the last numbers
+/// that the rows tell. No answer in its book is wrong, since there is none. This call does nothing.
 pub fn cities_begin_good()
-    ensures good { (w : World) → IsStart w → (past : Past) × IsGood w past }
-    ensures answers { (w : World) → IsStart w → AnswersRightly w }
+    ensures good { (rows : KeptUpdates) (w : World) → IsStart rows w → (past : Past) × IsGood w past }
+    ensures answers { (rows : KeptUpdates) (w : World) → IsStart rows w → AnswersRightly w }
 {}
 
 /// A good city stays one, whatever happens in it. This call does nothing.
