@@ -55,7 +55,6 @@ pub fn cities_run_by_the_protocol()
         → one.lent ≡ true
         → program_of (lent_there w a number false) accepted ≡ program_happens (program_of w accepted) false (model.Commit a number None) }
     ensures given { (w : World) (accepted : List model.Entry) (name : List Label) (to : AgentId)
-        → HaveOwnIds w
         → IsSome (title_at w.registry name)
         → agents.same to (owner_of w.registry name) ≡ false
         → IsSome ((w.agent (owner_of w.registry name)).seat name).last
@@ -114,7 +113,6 @@ pub fn cities_stay_known()
         → Known (program_of (lent_there w a number false) accepted) }
     ensures given { (w : World) (accepted : List model.Entry) (name : List Label) (to : AgentId)
         → Known (program_of w accepted)
-        → HaveOwnIds w
         → IsSome (title_at w.registry name)
         → agents.same to (owner_of w.registry name) ≡ false
         → IsSome ((w.agent (owner_of w.registry name)).seat name).last

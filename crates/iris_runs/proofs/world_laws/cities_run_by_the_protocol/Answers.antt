@@ -26,7 +26,7 @@ pub returns-clause-outdated : goal.returns-clause-outdated
 returns-clause-outdated c = outdated_is
 
 pub returns-clause-given : goal.returns-clause-given
-returns-clause-given c w accepted name to own = given_is w accepted name to
+returns-clause-given c = given_is
 
 pub returns-clause-forgotten : goal.returns-clause-forgotten
 returns-clause-forgotten c = forgotten_is

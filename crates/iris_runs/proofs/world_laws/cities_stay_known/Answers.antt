@@ -23,7 +23,7 @@ pub returns-clause-back : goal.returns-clause-back
 returns-clause-back c = back_known
 
 pub returns-clause-given : goal.returns-clause-given
-returns-clause-given c w accepted name to known own = given_known w accepted name to known
+returns-clause-given c = given_known
 
 pub returns-clause-forgotten : goal.returns-clause-forgotten
 returns-clause-forgotten c = forgotten_known
