@@ -1,13 +1,16 @@
 -- In a good city each answer is allowed by what was entered before it, whatever happens.
-use Rattle.std.proofs.Common.{◌≡◌, ◌⊎◌, ℕ, suc, Bool, true, false, if◌then◌else◌, List, [], ◌∷◌, map, fold, All, Option, Some, None, inl, inr, refl, sym, subst}
+use Rattle.std.proofs.Common.{◌≡◌, ◌⊎◌, ℕ, suc, Bool, true, false, if◌then◌else◌, List, [], ◌∷◌, map, fold, All, Option, Some, None, inl, inr, refl, ap, ◌∙◌, sym, subst}
 use Rattle.std.proofs.lemmas.List.Elements.{All-nil, All-cons, All-head, All-tail}
 use Rattle.iris_base.specs.declared.name.Label.{Label}
+use Rattle.iris_tree.specs.declared.item.Item.{Item}
 use Rattle.iris_need.specs.declared.need.Need.{Need}
 use Rattle.iris_route.specs.Titles.{Titles}
 use Rattle.iris_book.specs.Book.{with_entry}
 use Rattle.iris_book.specs.declared.entry.Entry.TheVariants as entries
 use Rattle.iris_gather.specs.declared.basis.Basis.{Basis}
 use Rattle.iris_gather.specs.declared.entries.OpenGather.{OpenGather}
+use Rattle.iris_gather.specs.declared.parent.Parent.{Parent}
+use Rattle.iris_gather.specs.declared.parent.Parent.TheVariants as parents
 use Rattle.iris_gather.specs.declared.verdict.Verdict.{Verdict}
 use Rattle.iris_gather.specs.declared.verdict.Verdict.TheVariants.{Done, Asks}
 use Rattle.iris_gather.specs.Gathers.{Gathering, settled}
@@ -18,7 +21,8 @@ use Rattle.iris_agent.specs.declared.step.Step.TheVariants as steps
 use Rattle.iris_agent.specs.Arrivals as at_agent
 use Rattle.iris_agent.specs.Decisions.{ask_posted, ending, judged, IsBasis}
 use Rattle.iris_agent.specs.Handled.{Handled}
-use Rattle.iris_protocol.specs.Table.{AgentId}
+use Rattle.iris_protocol.proofs.Tables.{at_same}
+use Rattle.iris_protocol.specs.Table.{AgentId, numbers}
 use Rattle.iris_copies.specs.Allowed.{IsAllowed}
 use Rattle.iris_migrate.specs.Messages.{node_of}
 use Rattle.iris_runs.specs.Answers.{AreAnswersAllowed, AnswersRightly}
@@ -132,3 +136,19 @@ decided_answers w past a number one basis there rests good right = by basis.verd
 
 pub given_answers : (w : World) (name : List Label) (to : AgentId) → AnswersRightly w → AnswersRightly (given w name to)
 given_answers w name to right = answers_lasting w.history w.turn.now (entries.Gave name to (suc (epoch_of w.registry name))) refl right
+
+-- ---- an answer is entered
+
+-- a client's gather that lacks nothing ends: its answer is entered, and the request has its outcome
+pub answer_entered : (w : World) (a : AgentId) (number : ℕ) (one : OpenGather) (basis : Basis) (request : ℕ) (support : List Need) (items : List Item)
+    → one.gather.parent ≡ parents.Client request
+    → basis.verdict ≡ Done support items
+    → ((decided w a number basis (Some one)).history ≡ with_entry w.history (entries.Answered request one.gather.query one.gather.floor basis.cites)) × ((decided w a number basis (Some one)).closed request ≡ true)
+answer_entered w a number one basis request support items client done =
+    (ap (λ v. (after w a (left v)).history) done ∙ ap (λ p. (ended p).history) client, ap (λ v. (after w a (left v)).closed request) done ∙ (ap (λ p. (ended p).closed request) client ∙ at_same numbers w.closed request true))
+  where
+    left : Verdict → Handled
+    left verdict = judged w.registry (w.agent a) w.turn number (settled one.gather verdict basis.pieces w.turn.next_ask) basis.cites verdict
+
+    ended : Parent → World
+    ended p = stepped (begun w a (left (Done support items))) (ending (settled one.gather (Done support items) basis.pieces w.turn.next_ask) items basis.cites p)

@@ -8,7 +8,12 @@ ghost use Rattle.iris_fragment.specs.Changes.{version_at};
 ghost use Rattle.iris_fragment.specs.Contents.{status};
 ghost use Rattle.iris_fragment.specs.declared.status.Status.TheVariants.{Owned};
 ghost use Rattle.iris_need.specs.Needs.{missing_of};
-ghost use Rattle.iris_book.specs.Book.{latest, value_at};
+ghost use Rattle.iris_tree.specs.declared.item.Item.{Item};
+ghost use Rattle.iris_need.specs.declared.need.Need.{Need};
+ghost use Rattle.iris_book.specs.Book.{latest, value_at, with_entry};
+ghost use Rattle.iris_book.specs.declared.entry.Entry.TheVariants as entries;
+ghost use Rattle.iris_gather.specs.declared.parent.Parent.TheVariants as parents;
+ghost use Rattle.iris_gather.specs.declared.verdict.Verdict.TheVariants.{Done};
 ghost use Rattle.iris_cache.specs.Recency.{is_complete};
 ghost use Rattle.iris_migrate.specs.declared.key.Key.TheVariants as keys;
 ghost use Rattle.iris_migrate.specs.declared.message.Handover.{Handover as Handed};
@@ -114,7 +119,8 @@ pub fn cities_stay_good()
 {}
 
 /// In a good city each answer is allowed by what was entered before it: its cites tell of a document, and its
-/// items are what the query selects there. So it stays, whatever happens. This call does nothing.
+/// items are what the query selects there. So it stays, whatever happens. Each answer to a client is entered,
+/// and its request has its outcome then. This call does nothing.
 pub fn cities_answer_rightly()
     ensures arrival { (w : World) (past : Past) (serving kept : Bool) (waiting : Option ℕ) (k : ℕ)
         → IsGood w past
@@ -126,6 +132,11 @@ pub fn cities_answer_rightly()
         → IsGood w past
         → AnswersRightly w
         → AnswersRightly (decided w a number basis (Some one)) }
+    ensures entered { (w : World) (a : List ℕ) (number : ℕ) (one : OpenGather) (basis : Basis) (request : ℕ) (support : List Need) (items : List Item)
+        → one.gather.parent ≡ parents.Client request
+        → basis.verdict ≡ Done support items
+        → ((decided w a number basis (Some one)).history ≡ with_entry w.history (entries.Answered request one.gather.query one.gather.floor basis.cites))
+        × ((decided w a number basis (Some one)).closed request ≡ true) }
     ensures given { (w : World) (name : List Label) (to : List ℕ) → AnswersRightly w → AnswersRightly (given w name to) }
     ensures advanced { (w : World) (moment : ℕ) → w.turn.now ≤ moment → AnswersRightly w → AnswersRightly (advanced w moment) }
     ensures forgotten { (w : World) (stays : List ℕ → ℕ → Bool) → AnswersRightly (forgotten w stays) }

@@ -1,5 +1,5 @@
 use Rattle.iris_runs.proofs.AnswersAllowed.{answers_later, answers_forgotten}
-use Rattle.iris_runs.proofs.AnswersRight.{delivered_answers, decided_answers, given_answers}
+use Rattle.iris_runs.proofs.AnswersRight.{delivered_answers, decided_answers, answer_entered, given_answers}
 use Rattle.iris_runs.proofs.good_laws.cities_answer_rightly.Goals as goal
 
 pub returns-clause-arrival : goal.returns-clause-arrival
@@ -7,6 +7,9 @@ returns-clause-arrival c = delivered_answers
 
 pub returns-clause-decision : goal.returns-clause-decision
 returns-clause-decision c = decided_answers
+
+pub returns-clause-entered : goal.returns-clause-entered
+returns-clause-entered c = answer_entered
 
 pub returns-clause-given : goal.returns-clause-given
 returns-clause-given c = given_answers
