@@ -83,76 +83,76 @@ asked_parked old mid new ask message met there h =
 -- ---- the holder of a node
 
 -- what becomes of a message is as its node's seat says
-pub directed_as : (old new : Holdings) (turn after : Turn) (message : Message) (made : List Step) (book written : Recorded) (before told : Seen) (place : List Step) (one other : Direct)
+pub directed_as : (old new : Holdings) (turn after : Turn) (message : Message) (made : List Step) (book written : Recorded) (before told : Seen) (has_room : List Step → Type 0) (one other : Direct)
     → one ≡ other
-    → Happened (λ kept. mail_directed kept (tables_of old) turn message one) new after made book written before told place
-    → Happened (λ kept. mail_directed kept (tables_of old) turn message other) new after made book written before told place
-directed_as old new turn after message made book written before told place one other is h =
-    subst (λ (d : Direct). Happened (λ kept. mail_directed kept (tables_of old) turn message d) new after made book written before told place) is h
+    → Happened (λ kept. mail_directed kept (tables_of old) turn message one) new after made book written before told has_room
+    → Happened (λ kept. mail_directed kept (tables_of old) turn message other) new after made book written before told has_room
+directed_as old new turn after message made book written before told has_room one other is h =
+    subst (λ (d : Direct). Happened (λ kept. mail_directed kept (tables_of old) turn message d) new after made book written before told has_room) is h
 
 -- ---- all messages
 
 -- a message for the holder of a node arrived
-pub arrived_mail : (old new : Holdings) (turn after : Turn) (message : Message) (made : List Step) (book written : Recorded) (before told : Seen) (place : List Step) (to : Direct)
+pub arrived_mail : (old new : Holdings) (turn after : Turn) (message : Message) (made : List Step) (book written : Recorded) (before told : Seen) (has_room : List Step → Type 0) (to : Direct)
     → ((kept : Bool) → arrives kept None (tables_of old) turn message ≡ mail_directed kept (tables_of old) turn message to)
     → WaitsFor old message None
-    → Happened (λ kept. mail_directed kept (tables_of old) turn message to) new after made book written before told place
-    → HasArrived old new turn after message made book written before told place
-arrived_mail old new turn after message made book written before told place to same waits h = record {
+    → Happened (λ kept. mail_directed kept (tables_of old) turn message to) new after made book written before told has_room
+    → HasArrived old new turn after message made book written before told has_room
+arrived_mail old new turn after message made book written before told has_room to same waits h = record {
   waiting = None;
   waits = waits;
-  happened = subst (λ (event : Bool → Handled). Happened event new after made book written before told place) (λ i kept. sym (same kept) i) h;
+  happened = subst (λ (event : Bool → Handled). Happened event new after made book written before told has_room) (λ i kept. sym (same kept) i) h;
 }
 
-pub query_arrived : (old new : Holdings) (turn after : Turn) (message : Message) (made : List Step) (book written : Recorded) (before told : Seen) (place : List Step)
+pub query_arrived : (old new : Holdings) (turn after : Turn) (message : Message) (made : List Step) (book written : Recorded) (before told : Seen) (has_room : List Step → Type 0)
     (request : ℕ) (query : Syntax) (name : List Label) (epoch floor : ℕ)
     → message ≡ Query request query name epoch floor
-    → Happened (λ kept. mail_directed kept (tables_of old) turn message (direct (seat_at old.titles name) epoch)) new after made book written before told place
-    → HasArrived old new turn after message made book written before told place
+    → Happened (λ kept. mail_directed kept (tables_of old) turn message (direct (seat_at old.titles name) epoch)) new after made book written before told has_room
+    → HasArrived old new turn after message made book written before told has_room
 unfolding tables_of
-query_arrived old new turn after message made book written before told place request query name epoch floor is h =
-    arrived_mail old new turn after message made book written before told place (direct (seat_at old.titles name) epoch)
+query_arrived old new turn after message made book written before told has_room request query name epoch floor is h =
+    arrived_mail old new turn after message made book written before told has_room (direct (seat_at old.titles name) epoch)
     (λ kept. subst (λ (m : Message). arrives kept None (tables_of old) turn m ≡ mail_directed kept (tables_of old) turn m (direct (seat_at old.titles name) epoch)) (sym is) refl)
     (subst (λ (m : Message). WaitsFor old m None) (sym is) refl) h
 
-pub update_arrived : (old new : Holdings) (turn after : Turn) (message : Message) (made : List Step) (book written : Recorded) (before told : Seen) (place : List Step)
+pub update_arrived : (old new : Holdings) (turn after : Turn) (message : Message) (made : List Step) (book written : Recorded) (before told : Seen) (has_room : List Step → Type 0)
     (request : ℕ) (name : List Label) (epoch number : ℕ) (changes : List Change)
     → message ≡ Update request name epoch number changes
-    → Happened (λ kept. mail_directed kept (tables_of old) turn message (direct (seat_at old.titles name) epoch)) new after made book written before told place
-    → HasArrived old new turn after message made book written before told place
+    → Happened (λ kept. mail_directed kept (tables_of old) turn message (direct (seat_at old.titles name) epoch)) new after made book written before told has_room
+    → HasArrived old new turn after message made book written before told has_room
 unfolding tables_of
-update_arrived old new turn after message made book written before told place request name epoch number changes is h =
-    arrived_mail old new turn after message made book written before told place (direct (seat_at old.titles name) epoch)
+update_arrived old new turn after message made book written before told has_room request name epoch number changes is h =
+    arrived_mail old new turn after message made book written before told has_room (direct (seat_at old.titles name) epoch)
     (λ kept. subst (λ (m : Message). arrives kept None (tables_of old) turn m ≡ mail_directed kept (tables_of old) turn m (direct (seat_at old.titles name) epoch)) (sym is) refl)
     (subst (λ (m : Message). WaitsFor old m None) (sym is) refl) h
 
-pub ask_arrived : (old new : Holdings) (turn after : Turn) (message : Message) (made : List Step) (book written : Recorded) (before told : Seen) (place : List Step)
+pub ask_arrived : (old new : Holdings) (turn after : Turn) (message : Message) (made : List Step) (book written : Recorded) (before told : Seen) (has_room : List Step → Type 0)
     (ask : ℕ) (from : List ℕ) (query : Syntax) (start : Start) (epoch floor : ℕ)
     → message ≡ Ask ask from query start epoch floor
     → is_among old.asked ask ≡ false
-    → Happened (λ kept. mail_directed kept (tables_of old) turn message (direct (seat_at old.titles start.name) epoch)) new after made book written before told place
-    → HasArrived old new turn after message made book written before told place
+    → Happened (λ kept. mail_directed kept (tables_of old) turn message (direct (seat_at old.titles start.name) epoch)) new after made book written before told has_room
+    → HasArrived old new turn after message made book written before told has_room
 unfolding tables_of
-ask_arrived old new turn after message made book written before told place ask from query start epoch floor is fresh h =
-    arrived_mail old new turn after message made book written before told place (direct (seat_at old.titles start.name) epoch)
+ask_arrived old new turn after message made book written before told has_room ask from query start epoch floor is fresh h =
+    arrived_mail old new turn after message made book written before told has_room (direct (seat_at old.titles start.name) epoch)
     (λ kept. subst (λ (m : Message). arrives kept None (tables_of old) turn m ≡ mail_directed kept (tables_of old) turn m (direct (seat_at old.titles start.name) epoch)) (sym is)
     (ap (λ (b : Bool). if b then only_change (tables_of old) turn else mail_directed kept (tables_of old) turn (Ask ask from query start epoch floor) (direct (seat_at old.titles start.name) epoch)) fresh))
     (subst (λ (m : Message). WaitsFor old m None) (sym is) refl) h
 
 -- an ask that was met changes nothing
-pub met_arrived : (old : Holdings) (turn : Turn) (message : Message) (made : List Step) (book : Recorded) (keeper : Seen) (place : List Step)
+pub met_arrived : (old : Holdings) (turn : Turn) (message : Message) (made : List Step) (book : Recorded) (keeper : Seen) (has_room : List Step → Type 0)
     (ask : ℕ) (from : List ℕ) (query : Syntax) (start : Start) (epoch floor : ℕ)
     → message ≡ Ask ask from query start epoch floor
     → is_among old.asked ask ≡ true
     → made ≡ []
-    → place ≡ []
-    → HasArrived old old turn turn message made book book keeper keeper place
+    → has_room []
+    → HasArrived old old turn turn message made book book keeper keeper has_room
 unfolding tables_of
-met_arrived old turn message made book keeper place ask from query start epoch floor is met none room = record {
+met_arrived old turn message made book keeper has_room ask from query start epoch floor is met none room = record {
   waiting = None;
   waits = subst (λ (m : Message). WaitsFor old m None) (sym is) refl;
   happened =
-      happened (λ kept. arrives kept None (tables_of old) turn message) (only_change (tables_of old) turn) old turn made book keeper place
+      happened (λ kept. arrives kept None (tables_of old) turn message) (only_change (tables_of old) turn) old turn made book keeper has_room
       (λ kept. ap (arrives kept None (tables_of old) turn) is
       ∙ ap (λ (b : Bool). if b then only_change (tables_of old) turn else mail_directed kept (tables_of old) turn (Ask ask from query start epoch floor) (direct (seat_at old.titles start.name) epoch)) met)
       refl (record { tables = refl; turn = refl; steps = none }) room;
@@ -219,17 +219,17 @@ awaited old mid new turn ask number pieces made waits none took step = record {
         ∙ sym (ap (reply_taken (tables_of old) number ask pieces) at)
 
 -- a reply arrived
-pub reply_arrived : (old new : Holdings) (turn : Turn) (message : Message) (made : List Step) (book : Recorded) (keeper : Seen) (place : List Step) (ask : ℕ) (pieces : List Piece)
+pub reply_arrived : (old new : Holdings) (turn : Turn) (message : Message) (made : List Step) (book : Recorded) (keeper : Seen) (has_room : List Step → Type 0) (ask : ℕ) (pieces : List Piece)
     → message ≡ Reply ask pieces
     → HasReplied old new turn ask pieces made
-    → place ≡ made
-    → HasArrived old new turn turn message made book book keeper keeper place
-reply_arrived old new turn message made book keeper place ask pieces is h room = record {
+    → has_room made
+    → HasArrived old new turn turn message made book book keeper keeper has_room
+reply_arrived old new turn message made book keeper has_room ask pieces is h room = record {
   waiting = h.waiting;
   waits = subst (λ (m : Message). WaitsFor old m h.waiting) (sym is) h.waits;
   happened =
-      happened (λ kept. arrives kept h.waiting (tables_of old) turn message) (reply_arrives (tables_of old) turn h.waiting ask pieces) new turn made book keeper place
-      (λ kept. ap (arrives kept h.waiting (tables_of old) turn) is) (enters_none h.waiting) h.does (room ∙ h.does.steps);
+      happened (λ kept. arrives kept h.waiting (tables_of old) turn message) (reply_arrives (tables_of old) turn h.waiting ask pieces) new turn made book keeper has_room
+      (λ kept. ap (arrives kept h.waiting (tables_of old) turn) is) (enters_none h.waiting) h.does (subst has_room h.does.steps room);
 }
   where
     enters_none : (waiting : Option ℕ) → (reply_arrives (tables_of old) turn waiting ask pieces).entries ≡ []
@@ -245,16 +245,16 @@ handover_enters t turn h = go (nat_le h.epoch (t.seat h.name).taken)
     go false = refl
 
 -- a handover arrived
-pub handover_arrived : (old new : Holdings) (turn after : Turn) (message : Message) (made : List Step) (book : Recorded) (keeper : Seen) (place : List Step)
+pub handover_arrived : (old new : Holdings) (turn after : Turn) (message : Message) (made : List Step) (book : Recorded) (keeper : Seen) (has_room : List Step → Type 0)
     (handover : Handed)
     → message ≡ Handover handover
     → Does new after made (handover_arrives (tables_of old) turn handover)
-    → place ≡ made
-    → HasArrived old new turn after message made book book keeper keeper place
-handover_arrived old new turn after message made book keeper place handover is does room = record {
+    → has_room made
+    → HasArrived old new turn after message made book book keeper keeper has_room
+handover_arrived old new turn after message made book keeper has_room handover is does room = record {
   waiting = None;
   waits = subst (λ (m : Message). WaitsFor old m None) (sym is) refl;
   happened =
-      happened (λ kept. arrives kept None (tables_of old) turn message) (handover_arrives (tables_of old) turn handover) new after made book keeper place
-      (λ kept. ap (arrives kept None (tables_of old) turn) is) (handover_enters (tables_of old) turn handover) does (room ∙ does.steps);
+      happened (λ kept. arrives kept None (tables_of old) turn message) (handover_arrives (tables_of old) turn handover) new after made book keeper has_room
+      (λ kept. ap (arrives kept None (tables_of old) turn) is) (handover_enters (tables_of old) turn handover) does (subst has_room does.steps room);
 }

@@ -18,19 +18,19 @@ pub kept_nothing : (keeper : Seen) → KeptNothing keeper keeper
 kept_nothing keeper = record { rows = λ rows h. h; gives = λ rows h. h }
 
 -- an event that enters nothing, and asks the keeper for nothing
-pub happened : (event : Bool → Handled) (h : Handled) (new : Holdings) (after : Turn) (made : List Step) (book : Recorded) (keeper : Seen) (place : List Step)
+pub happened : (event : Bool → Handled) (h : Handled) (new : Holdings) (after : Turn) (made : List Step) (book : Recorded) (keeper : Seen) (has_room : List Step → Type 0)
     → ((kept : Bool) → event kept ≡ h)
     → h.entries ≡ []
     → Does new after made h
-    → place ≡ h.steps
-    → Happened event new after made book book keeper keeper place
-happened event h new after made book keeper place is none does room = record {
+    → has_room h.steps
+    → Happened event new after made book book keeper keeper has_room
+happened event h new after made book keeper has_room is none does room = record {
   kept = true;
   does = subst (Does new after made) (sym (is true)) does;
   entered = subst (Entered book book) (sym (ap (λ (x : Handled). x.entries) (is true) ∙ none)) refl;
   rows = subst (KeptEntries keeper keeper) (sym (ap (λ (x : Handled). x.entries) (is true) ∙ none)) (kept_nothing keeper);
   cause = tt;
-  room = room ∙ ap (λ (x : Handled). x.steps) (sym (is true));
+  room = subst (λ (x : Handled). has_room x.steps) (sym (is true)) room;
 }
 
 -- two facts of a value, if there is one

@@ -123,17 +123,17 @@ served_unheld old turn request name number changes none kept =
     ap (λ (v : Option Local). update_of kept (tables_of old) turn request name number changes v (seat_at old.titles name).last) (not_own (part_in (held_at old.cache.contents.nodes name)) none)
 
 -- an event that comes to another happened where that one did
-pub happened_as : (event other : Bool → Handled) → ((kept : Bool) → event kept ≡ other kept) → (new : Holdings) (after : Turn) (made : List Step) (book written : Recorded) (before told : Seen) (place : List Step)
-    → Happened other new after made book written before told place → Happened event new after made book written before told place
-happened_as event other same new after made book written before told place h =
-    let all : other ≡ event = λ i kept. sym (same kept) i in subst (λ (e : Bool → Handled). Happened e new after made book written before told place) all h
+pub happened_as : (event other : Bool → Handled) → ((kept : Bool) → event kept ≡ other kept) → (new : Holdings) (after : Turn) (made : List Step) (book written : Recorded) (before told : Seen) (has_room : List Step → Type 0)
+    → Happened other new after made book written before told has_room → Happened event new after made book written before told has_room
+happened_as event other same new after made book written before told has_room h =
+    let all : other ≡ event = λ i kept. sym (same kept) i in subst (λ (e : Bool → Handled). Happened e new after made book written before told has_room) all h
 
 -- an update whose row was kept
-pub happened_kept : (old new : Holdings) (turn : Turn) (request : ℕ) (name : List Label) (number : ℕ) (changes : List Change) (local : Local) (made : List Step) (next : ℕ) (book written : Recorded) (entry : Entry) (row : Kept) (before told : Seen) (place : List Step) (kept : Bool)
+pub happened_kept : (old new : Holdings) (turn : Turn) (request : ℕ) (name : List Label) (number : ℕ) (changes : List Change) (local : Local) (made : List Step) (next : ℕ) (book written : Recorded) (entry : Entry) (row : Kept) (before told : Seen) (has_room : List Step → Type 0) (kept : Bool)
     → HasNode old new (renewed_in old.cache name local) name (with_last (seat_at old.titles name) number) → IsSomeAnd (version_at old.cache.contents name) (λ version. next ≡ suc version) → made ≡ steps.Accepted request next ∷ []
-    → entry ≡ Updated name number changes local turn.now → row ≡ rows.Update name number changes → written.history ≡ with_entry book.history entry → WasKept kept before told row → kept ≡ true → place ≡ made
-    → Happened (λ done. update_kept done (tables_of old) turn request name number changes local) new turn made book written before told place
-happened_kept old new turn request name number changes local made next book written entry row before told place kept node version is entered told_by more was is_kept room =
+    → entry ≡ Updated name number changes local turn.now → row ≡ rows.Update name number changes → written.history ≡ with_entry book.history entry → WasKept kept before told row → kept ≡ true → has_room made
+    → Happened (λ done. update_kept done (tables_of old) turn request name number changes local) new turn made book written before told has_room
+happened_kept old new turn request name number changes local made next book written entry row before told has_room kept node version is entered told_by more was is_kept room =
     let done = accepted old new turn request name number changes local made next node version is in
     let kept_row = subst (λ (b : Bool). WasKept b before told row) is_kept was in record {
       kept = true;
@@ -141,22 +141,22 @@ happened_kept old new turn request name number changes local made next book writ
       entered = more ∙ ap (λ (e : Entry). with_entry book.history e) entered;
       rows = subst (λ (r : Kept). KeptRow before told r) told_by kept_row;
       cause = tt;
-      room = room ∙ done.steps;
+      room = subst has_room done.steps room;
     }
 
 -- an update whose row was not kept
-pub happened_unkept : (old : Holdings) (turn : Turn) (request : ℕ) (name : List Label) (number : ℕ) (changes : List Change) (local : Local) (made asked : List Step) (next : ℕ) (book : Recorded) (row : Kept) (before told : Seen) (place : List Step) (kept : Bool)
-    → IsSomeAnd (version_at old.cache.contents name) (λ version. next ≡ suc version) → made ≡ steps.Refused request refusals.Unkept ∷ [] → asked ≡ steps.Accepted request next ∷ [] → WasKept kept before told row → kept ≡ false → place ≡ asked
-    → Happened (λ done. update_kept done (tables_of old) turn request name number changes local) old turn made book book before told place
+pub happened_unkept : (old : Holdings) (turn : Turn) (request : ℕ) (name : List Label) (number : ℕ) (changes : List Change) (local : Local) (made asked : List Step) (next : ℕ) (book : Recorded) (row : Kept) (before told : Seen) (has_room : List Step → Type 0) (kept : Bool)
+    → IsSomeAnd (version_at old.cache.contents name) (λ version. next ≡ suc version) → made ≡ steps.Refused request refusals.Unkept ∷ [] → asked ≡ steps.Accepted request next ∷ [] → WasKept kept before told row → kept ≡ false → has_room asked
+    → Happened (λ done. update_kept done (tables_of old) turn request name number changes local) old turn made book book before told has_room
 unfolding tables_of
-happened_unkept old turn request name number changes local made asked next book row before told place kept version is asked_is was not_kept room =
+happened_unkept old turn request name number changes local made asked next book row before told has_room kept version is asked_is was not_kept room =
     let failed = subst (λ (b : Bool). WasKept b before told row) not_kept was in record {
       kept = false;
       does = record { tables = refl; turn = refl; steps = is };
       entered = refl;
       rows = failed.0;
       cause = failed.1;
-      room = room ∙ asked_is ∙ ap (λ (v : ℕ). steps.Accepted request v ∷ []) (version_told (version_at old.cache.contents name) next version);
+      room = subst has_room (asked_is ∙ ap (λ (v : ℕ). steps.Accepted request v ∷ []) (version_told (version_at old.cache.contents name) next version)) room;
     }
 
 -- what is so of a result that is Ok

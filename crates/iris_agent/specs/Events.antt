@@ -63,14 +63,14 @@ MayArrive h (Handover handover) = FitsHandover h handover
 
 -- ---- after an event
 
--- What happened at an agent, as defined for a keeper that kept the row that it was asked to keep, or that failed in this call: the agent, the turn and the steps; the entries of the book and the rows of the keeper. Room was made for the steps of an event that is kept.
-pub record Happened (event : Bool → Handled) (new : Holdings) (after : Turn) (made : List Step) (book written : Recorded) (before told : Seen) (place : List Step) : Type 0 where
+-- What happened at an agent, as defined for a keeper that kept the row that it was asked to keep, or that failed in this call: the agent, the turn and the steps; the entries of the book and the rows of the keeper. There is room for what follows from the steps that the event has where its row is kept.
+pub record Happened (event : Bool → Handled) (new : Holdings) (after : Turn) (made : List Step) (book written : Recorded) (before told : Seen) (has_room : List Step → Type 0) : Type 0 where
   pub kept : Bool
   pub does : Does new after made (event kept)
   pub entered : Entered book written (event kept).entries
   pub rows : KeptEntries before told (event kept).entries
   pub cause : HasKept kept before told
-  pub room : place ≡ (event true).steps
+  pub room : has_room (event true).steps
 
 -- a reply to an ask arrived, for which that gather waited, if one did
 pub record HasReplied (old new : Holdings) (turn : Turn) (ask : ℕ) (pieces : List Piece) (made : List Step) : Type 0 where
@@ -87,10 +87,10 @@ WaitsFor h (Reply ask pieces) waiting = IsAwaiting h.gathers ask waiting
 WaitsFor h (Handover handover) waiting = waiting ≡ None
 
 -- a message arrived
-pub record HasArrived (old new : Holdings) (turn after : Turn) (message : Message) (made : List Step) (book written : Recorded) (before told : Seen) (place : List Step) : Type 0 where
+pub record HasArrived (old new : Holdings) (turn after : Turn) (message : Message) (made : List Step) (book written : Recorded) (before told : Seen) (has_room : List Step → Type 0) : Type 0 where
   pub waiting : Option ℕ
   pub waits : WaitsFor old message waiting
-  pub happened : Happened (λ kept. arrives kept waiting (tables_of old) turn message) new after made book written before told place
+  pub happened : Happened (λ kept. arrives kept waiting (tables_of old) turn message) new after made book written before told has_room
 
 -- ---- where there was no memory
 
