@@ -8,6 +8,7 @@ pub mod Depths
 pub mod Steps
 pub mod WorldTies
 pub mod Knowing
+pub mod Counted
 pub mod KeptOrderly
 pub mod CacheRight
 pub mod StayRight

@@ -138,7 +138,7 @@ IsSendAt w wanted (steps.Refused request refusal) = Unit {0}
 closed_post : (w : World) (wanted : ℕ → Wanted) (request : ℕ) (sent : Sent) → IsPostAt w wanted sent → IsPostAt (closes w request) wanted sent
 closed_post w wanted request sent is = record { message = is.message; place = is.place; newest = is.newest }
 
-closed_right : (w : World) (wanted : ℕ → Wanted) (request : ℕ) → IsRight w wanted → IsRight (closes w request) wanted
+pub closed_right : (w : World) (wanted : ℕ → Wanted) (request : ℕ) → IsRight w wanted → IsRight (closes w request) wanted
 closed_right w wanted request right = record {
   present = right.present;
   labels = right.labels;

@@ -1,4 +1,4 @@
--- A good city stays good as a client's request is posted.
+-- A good city stays good as a client's request is posted, and as one has its outcome at once.
 use Rattle.std.proofs.Common.{ℕ, ◌≤◌, List, IsSome}
 use Rattle.std.specs.Prelude.{suc}
 use Rattle.iris_base.specs.declared.name.Label.{Label}
@@ -8,11 +8,12 @@ use Rattle.iris_xpath.specs.Syntax.{Syntax}
 use Rattle.iris_migrate.specs.declared.message.Message.{Message}
 use Rattle.iris_migrate.specs.declared.message.Message.TheVariants.{Query, Update}
 use Rattle.iris_runs.specs.Good.{Past, IsGood, IsPostAt}
-use Rattle.iris_runs.specs.Happenings.{query_posted, update_posted}
+use Rattle.iris_runs.specs.Happenings.{query_posted, update_posted, counted}
 use Rattle.iris_runs.specs.Moments.{Wanted}
-use Rattle.iris_runs.specs.Worlds.{World, owner_of, epoch_of, posting}
+use Rattle.iris_runs.specs.Worlds.{World, owner_of, epoch_of, posting, closes}
+use Rattle.iris_runs.proofs.Counted.{counted_known}
 use Rattle.iris_runs.proofs.Knowing.{query_known, update_known}
-use Rattle.iris_runs.proofs.StayGood.{IsRight, right_of, good_of, some_weaker, posting_right}
+use Rattle.iris_runs.proofs.StayGood.{IsRight, right_of, good_of, some_weaker, posting_right, closed_right}
 
 -- of how many requests there were no other clause speaks
 requested_right : (w : World) (wanted : ℕ → Wanted) (requests : ℕ) → IsRight w wanted → IsRight (record w { requests = requests }) wanted
@@ -54,3 +55,8 @@ update_good w past name number changes place good = (
   where
     message : Message
     message = Update w.requests name (epoch_of w.registry name) number changes
+
+pub counted_good : (w : World) (past : Past) → IsGood w past → IsGood (counted w) past
+counted_good w past good =
+    good_of (counted w) past (counted_known w past.accepted good.known)
+    (requested_right (closes w w.requests) past.wanted (suc w.requests) (closed_right w past.wanted w.requests (right_of w past good)))

@@ -19,7 +19,7 @@ use Rattle.iris_agent.specs.Gives.{gives}
 use Rattle.iris_agent.specs.Handled.{Handled}
 use Rattle.iris_agent.specs.Tables.{with_cache, with_gather}
 use Rattle.iris_protocol.specs.Table.{AgentId}
-use Rattle.iris_runs.specs.Worlds.{Sent, World, owner_of, epoch_of, posting, marked, with_agent, after}
+use Rattle.iris_runs.specs.Worlds.{Sent, World, owner_of, epoch_of, posting, marked, closes, with_agent, after}
 
 -- ---- requests
 
@@ -29,6 +29,10 @@ query_posted w asked name floor = record (posting w (owner_of w.registry name) (
 
 abbrev pub update_posted : World → List Label → ℕ → List Change → World
 update_posted w name number changes = record (posting w (owner_of w.registry name) (Update w.requests name (epoch_of w.registry name) number changes)) { requests = suc w.requests }
+
+-- a request takes the next number, and has its outcome at once
+abbrev pub counted : World → World
+counted w = record (closes w w.requests) { requests = suc w.requests }
 
 -- ---- arrivals
 

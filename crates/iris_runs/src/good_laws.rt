@@ -33,7 +33,7 @@ ghost use Rattle.iris_runs.specs.Acting.{FitsAt};
 ghost use Rattle.iris_runs.specs.Answers.{AnswersRightly};
 ghost use Rattle.iris_runs.specs.Alike.{MayBeHandled, IsWaitedFor, WaitsOnce};
 ghost use Rattle.iris_runs.specs.Good.{Past, IsGood};
-ghost use Rattle.iris_runs.specs.Happenings.{query_posted, update_posted, delivered, decided, lent_there, given, evicted_at, advanced, forgotten};
+ghost use Rattle.iris_runs.specs.Happenings.{query_posted, update_posted, counted, delivered, decided, lent_there, given, evicted_at, advanced, forgotten};
 ghost use Rattle.iris_runs.specs.Rest.{IsStill, IsAtRest};
 ghost use Rattle.iris_runs.specs.Starts.{KeptUpdates, IsStart};
 ghost use Rattle.iris_runs.specs.Letters.{rank_of, need_of, letter_of, agent_of};
@@ -83,6 +83,7 @@ pub fn cities_stay_good()
         → IsSome (node_at w.history.start name)
         → IsGood w past
         → (after : Past) × IsGood (update_posted w name number changes) after }
+    ensures counted { (w : World) (past : Past) → IsGood w past → IsGood (counted w) past }
     ensures arrival { (w : World) (past : Past) (serving kept : Bool) (waiting : Option ℕ) (k : ℕ)
         → IfSome (w.post k) (λ sent. Tells (λ a. agent_of (w.agent a)) serving (letter_of sent.message))
         → IfSome (w.post k) (λ sent. (ask : ℕ) → letter_of sent.message ≡ model.reply ask → IsWaitedFor (w.agent sent.to).gather ask waiting)

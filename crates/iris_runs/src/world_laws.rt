@@ -13,12 +13,13 @@ ghost use Rattle.iris_protocol.specs.World as model;
 ghost use Rattle.iris_protocol.specs.Program.{program_happens, TellsEvent, Known, ProgramAllows};
 ghost use Rattle.iris_runs.specs.Letters.{need_of};
 ghost use Rattle.iris_runs.specs.Worlds.{World, owner_of, program_of};
-ghost use Rattle.iris_runs.specs.Happenings.{query_posted, update_posted, delivered, decided, lent_there, given, forgotten, evicted_at, advanced};
+ghost use Rattle.iris_runs.specs.Happenings.{query_posted, update_posted, counted, delivered, decided, lent_there, given, forgotten, evicted_at, advanced};
 ghost use Rattle.iris_runs.specs.Alike.{AsksForSome, MayBeHandled, HaveOwnIds, arrival_at};
 
 /// What happens in a city is what the protocol says of it, event by event: requests, arrivals, decisions of
 /// gathers, jobs that are given out, come back and are committed, moves, and what is forgotten. Of evicted
-/// copies and of time the protocol sees nothing. This call does nothing.
+/// copies and of time the protocol sees nothing; for a request that has its outcome at once it has no event,
+/// and `cities_stay_known` speaks of it. This call does nothing.
 pub fn cities_run_by_the_protocol()
     ensures query { (w : World) (accepted : List model.Entry) (asked : Syntax) (name : List Label) (floor : ℕ)
         → program_of (query_posted w asked name floor) accepted ≡ program_happens (program_of w accepted) false (model.Query name) }
@@ -77,6 +78,9 @@ pub fn cities_stay_known()
     ensures update { (w : World) (accepted : List model.Entry) (name : List Label) (number : ℕ) (changes : List Change)
         → Known (program_of w accepted)
         → Known (program_of (update_posted w name number changes) accepted) }
+    ensures counted { (w : World) (accepted : List model.Entry)
+        → Known (program_of w accepted)
+        → Known (program_of (counted w) accepted) }
     ensures arrival { (w : World) (accepted : List model.Entry) (serving kept : Bool) (waiting : Option ℕ) (k : ℕ)
         → Known (program_of w accepted)
         → TellsEvent (program_of w accepted) serving (arrival_at w kept k)

@@ -1,5 +1,5 @@
 use Rattle.iris_runs.proofs.StayArrived.{arrived_good}
-use Rattle.iris_runs.proofs.StayPosted.{query_good, update_good}
+use Rattle.iris_runs.proofs.StayPosted.{query_good, update_good, counted_good}
 use Rattle.iris_runs.proofs.StayDecided.{decided_good}
 use Rattle.iris_runs.proofs.StayGiven.{given_good}
 use Rattle.iris_runs.proofs.StayQuiet.{advanced_good, evicted_good, lent_good, back_good, forgotten_good}
@@ -10,6 +10,9 @@ returns-clause-query c = query_good
 
 pub returns-clause-update : goal.returns-clause-update
 returns-clause-update c = update_good
+
+pub returns-clause-counted : goal.returns-clause-counted
+returns-clause-counted c = counted_good
 
 pub returns-clause-lent : goal.returns-clause-lent
 returns-clause-lent c = lent_good

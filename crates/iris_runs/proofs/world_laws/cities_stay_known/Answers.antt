@@ -1,3 +1,4 @@
+use Rattle.iris_runs.proofs.Counted.{counted_known}
 use Rattle.iris_runs.proofs.Knowing.{query_known, update_known, arrival_known, decision_known, commit_known, lent_known, back_known, given_known, forgotten_known, evicted_known, advanced_known}
 use Rattle.iris_runs.proofs.world_laws.cities_stay_known.Goals as goal
 
@@ -6,6 +7,9 @@ returns-clause-query c = query_known
 
 pub returns-clause-update : goal.returns-clause-update
 returns-clause-update c = update_known
+
+pub returns-clause-counted : goal.returns-clause-counted
+returns-clause-counted c = counted_known
 
 pub returns-clause-arrival : goal.returns-clause-arrival
 returns-clause-arrival c = arrival_known
