@@ -14,7 +14,7 @@ use Rattle.iris_runs.specs.Good.{Past, IsGood}
 use Rattle.iris_runs.specs.Letters.{gather_of}
 use Rattle.iris_runs.specs.Rest.{IsStill, IsAtRest}
 use Rattle.iris_runs.specs.Worlds.{Sent, World, owner_of, post_of, program_of}
-use Rattle.iris_runs.proofs.KnownCities.{seat_known, gather_known, post_known}
+use Rattle.iris_runs.proofs.KnownCities.{seat_known, gather_known, post_known, requests_known, closed_known}
 
 -- ---- what is open, as the protocol sees it
 
@@ -49,14 +49,6 @@ seen_known w accepted known k = ap (λ (t : Program). t.posted.seen k) known.is
 owner_known : (w : World) (accepted : List model.Entry) (known : Known (program_of w accepted)) (name : List Label) → (known.world.node name).owner ≡ owner_of w.registry name
 unfolding program_of
 owner_known w accepted known name = ap (λ (t : Program). t.owner name) known.is
-
-requests_known : (w : World) (accepted : List model.Entry) (known : Known (program_of w accepted)) → known.world.requested.count ≡ w.requests
-unfolding program_of
-requests_known w accepted known = ap (λ (t : Program). t.requests) known.is
-
-closed_known : (w : World) (accepted : List model.Entry) (known : Known (program_of w accepted)) (request : ℕ) → model.is_done (known.world.status request) ≡ w.closed request
-unfolding program_of
-closed_known w accepted known request = ap (λ (t : Program). t.closed request) known.is
 
 -- ---- at rest
 

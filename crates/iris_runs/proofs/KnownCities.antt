@@ -1,5 +1,5 @@
--- What a city's history by the protocol says of its own tables: which numbers are free, whose asks are pending, and what is parked.
-use Rattle.std.proofs.Common.{◌≡◌, ◌⊎◌, ℕ, ◌<◌, ◌≤◌, Bool, true, false, cond, is_some, nat_eq, List, [], ◌∷◌, map, Option, Some, None, option_map, refl, sym, ap, ◌∙◌, subst, inl, inr, arith}
+-- What a city's history by the protocol says of its own tables: which numbers are free, which requests were made, whose asks are pending, and what is parked.
+use Rattle.std.proofs.Common.{◌≡◌, ◌≢◌, ◌⊎◌, ℕ, ◌<◌, ◌≤◌, Bool, true, false, cond, is_some, nat_eq, List, [], ◌∷◌, map, Option, Some, None, option_map, refl, sym, ap, ◌∙◌, subst, inl, inr, arith}
 use Rattle.std.specs.List.{filter_map}
 use Rattle.std.specs.BTreeMap.{is_at}
 use Rattle.std.specs.Ordering.{nat_cmp}
@@ -7,6 +7,10 @@ use Rattle.std.proofs.lemmas.Bool.{eqb-true}
 use Rattle.std.proofs.lemmas.Bool.Decides.{nat_tests}
 use Rattle.iris_base.specs.declared.name.Label.{Label}
 use Rattle.iris_need.specs.declared.need.Need.{Need}
+use Rattle.iris_migrate.specs.declared.key.Key.TheVariants as keys
+use Rattle.iris_migrate.specs.declared.message.Message.{Message}
+use Rattle.iris_migrate.specs.declared.message.Message.TheVariants.{Query, Ask, Reply, Update, Handover}
+use Rattle.iris_migrate.specs.Messages.{key_of}
 use Rattle.iris_gather.specs.declared.entries.OpenGather.{OpenGather}
 use Rattle.iris_gather.specs.declared.parent.Parent.{Parent}
 use Rattle.iris_gather.specs.declared.parent.Parent.TheVariants as parents
@@ -14,12 +18,12 @@ use Rattle.iris_gather.specs.Gathers.{need_at}
 use Rattle.iris_gather.specs.OpenGathers.{is_request, serves_request, awaits}
 use Rattle.iris_protocol.specs.Table.{AgentId, Each, Among, Distinct}
 use Rattle.iris_protocol.specs.World as model
-use Rattle.iris_protocol.specs.Good.{Idle, IsAskOf, GatherGood, parent_at}
+use Rattle.iris_protocol.specs.Good.{Idle, KnownLetter, PostGood, IsAskOf, GatherGood, parent_at}
 use Rattle.iris_protocol.specs.Program.{Program, Known}
 use Rattle.iris_protocol.proofs.Tables.{of_some, Each-one}
-use Rattle.iris_runs.specs.Alike.{WaitsOnce}
-use Rattle.iris_runs.specs.Letters.{agent_of, gather_of, seat_of, mail_of, parent_of}
-use Rattle.iris_runs.specs.Worlds.{World, post_of, program_of}
+use Rattle.iris_runs.specs.Alike.{WaitsOnce, IsWaitedFor}
+use Rattle.iris_runs.specs.Letters.{agent_of, gather_of, seat_of, mail_of, letter_of, parent_of}
+use Rattle.iris_runs.specs.Worlds.{Sent, World, post_of, program_of}
 
 -- ---- the tables of the history are those of the city
 
@@ -39,6 +43,14 @@ pub post_known : (w : World) (accepted : List model.Entry) (known : Known (progr
 unfolding program_of
 post_known w accepted known k = ap (λ (t : Program). t.posted.post k) known.is
 
+pub requests_known : (w : World) (accepted : List model.Entry) (known : Known (program_of w accepted)) → known.world.requested.count ≡ w.requests
+unfolding program_of
+requests_known w accepted known = ap (λ (t : Program). t.requests) known.is
+
+pub closed_known : (w : World) (accepted : List model.Entry) (known : Known (program_of w accepted)) (request : ℕ) → model.is_done (known.world.status request) ≡ w.closed request
+unfolding program_of
+closed_known w accepted known request = ap (λ (t : Program). t.closed request) known.is
+
 pub gathers_known : (w : World) (accepted : List model.Entry) (known : Known (program_of w accepted)) → known.world.gathers ≡ w.turn.next_gather
 unfolding program_of
 gathers_known w accepted known = ap (λ (t : Program). t.next_gather) known.is
@@ -46,6 +58,26 @@ gathers_known w accepted known = ap (λ (t : Program). t.next_gather) known.is
 pub asks_known : (w : World) (accepted : List model.Entry) (known : Known (program_of w accepted)) → known.world.asks.count ≡ w.turn.next_ask
 unfolding program_of
 asks_known w accepted known = ap (λ (t : Program). t.next_ask) known.is
+
+-- ---- kept posts
+
+-- what the protocol says of a post that is kept
+pub post_good : (w : World) (accepted : List model.Entry) (known : Known (program_of w accepted)) (k : ℕ) (sent : Sent) → w.post k ≡ Some sent → PostGood known.world.node known.world.requested known.world.asks (post_of sent)
+post_good w accepted known k sent there = of_some (PostGood known.world.node known.world.requested known.world.asks) (known.world.posted.post k) (post_of sent) (post_known w accepted known k ∙ ap (option_map post_of) there) (known.good.letters.kept k)
+
+-- the request of a message was made
+pub posted_below : (w : World) (accepted : List model.Entry) → Known (program_of w accepted) → (k : ℕ) (sent : Sent) (request : ℕ) → w.post k ≡ Some sent → key_of sent.message ≡ Some (keys.Request request) → request < w.requests
+posted_below w accepted known k sent request there is = subst (λ (count : ℕ). request < count) (requests_known w accepted known) (by sent.message (post_good w accepted known k sent there).known is)
+  where
+    of_number : (own : ℕ) → Some (keys.Request own) ≡ Some (keys.Request request) → own < known.world.requested.count → request < known.world.requested.count
+    of_number own same before = let e : own ≡ request = cc in subst (λ (r : ℕ). r < known.world.requested.count) e before
+
+    by : (message : Message) → KnownLetter known.world.requested known.world.asks sent.to (letter_of message) → key_of message ≡ Some (keys.Request request) → request < known.world.requested.count
+    by (Query own asked name epoch floor) says is = of_number own is says.0
+    by (Ask ask from asked start epoch floor) says is = absurd (cc)
+    by (Reply ask pieces) says is = absurd (cc)
+    by (Update own name epoch number changes) says is = of_number own is says.0
+    by (Handover handed) says is = absurd (cc)
 
 -- ---- small facts
 
@@ -94,6 +126,16 @@ waits_once w accepted known a number one there =
       lent = λ lent. empty_before (λ entry. entry.0) one.gather.pending (good.lent lent);
     }
 
+parent_known : (w : World) (accepted : List model.Entry) (known : Known (program_of w accepted)) (a : AgentId) (number : ℕ) (one : OpenGather) → (w.agent a).gather number ≡ Some one → parent_at (known.world.gather a number) ≡ Some (parent_of one.gather.parent)
+parent_known w accepted known a number one there = ap parent_at (gather_known w accepted known a number ∙ ap (option_map gather_of) there)
+
+-- the request of a client's gather was made, and has no outcome while the gather is open
+pub client_open : (w : World) (accepted : List model.Entry) → Known (program_of w accepted) → (a : AgentId) (number : ℕ) (one : OpenGather) (request : ℕ) → (w.agent a).gather number ≡ Some one → one.gather.parent ≡ parents.Client request
+    → (request < w.requests) × (w.closed request ≡ false)
+client_open w accepted known a number one request there client =
+    let opened = known.good.requests.clients a number request (parent_known w accepted known a number one there ∙ ap (λ (parent : Parent). Some (parent_of parent)) client) in
+    (subst (λ (count : ℕ). request < count) (requests_known w accepted known) opened.0, sym (closed_known w accepted known request) ∙ ap model.is_done opened.2)
+
 same_ask : (ask other : ℕ) → is_at (nat_cmp ask) other ≡ true → other ≡ ask
 same_ask ask other is = grind (arith, nat_tests)
 
@@ -131,6 +173,14 @@ awaited_by_one w accepted known a b number other ask here there =
     let two = awaited_ask w accepted known b other ask there in
     (sym one.1 ∙ two.1, sym one.2 ∙ two.2)
 
+-- so an agent that waits for an ask does so at one gather
+pub waited_for : (w : World) (accepted : List model.Entry) → Known (program_of w accepted) → (a : AgentId) (ask number : ℕ) → awaits ask ((w.agent a).gather number) ≡ true → IsWaitedFor (w.agent a).gather ask (Some number)
+waited_for w accepted known a ask number waits = (waits, λ other apart. by other apart (awaits ask ((w.agent a).gather other)) refl)
+  where
+    by : (other : ℕ) → other ≢ number → (b : Bool) → awaits ask ((w.agent a).gather other) ≡ b → b ≡ false
+    by other apart false there = refl
+    by other apart true there = absurd (apart (sym (awaited_by_one w accepted known a a number other ask waits there).1))
+
 -- no gather waits for an ask of a number that is free for asks
 pub asks_free : (w : World) (accepted : List model.Entry) → Known (program_of w accepted) → (a : AgentId) (ask number : ℕ) → w.turn.next_ask ≤ ask → awaits ask ((w.agent a).gather number) ≡ false
 asks_free w accepted known a ask number free = by (awaits ask ((w.agent a).gather number)) refl
@@ -149,9 +199,6 @@ parked_idle w accepted known a name = subst (λ (s : model.Seat). Each (λ (m : 
 pub idle_unserved : (w : World) (accepted : List model.Entry) (known : Known (program_of w accepted)) (request : ℕ) → known.world.status request ≡ model.idle → (a : AgentId) (number : ℕ) → serves_request request ((w.agent a).gather number) ≡ false
 idle_unserved w accepted known request idle a number = by ((w.agent a).gather number) refl
   where
-    parent_is : (one : OpenGather) → (w.agent a).gather number ≡ Some one → parent_at (known.world.gather a number) ≡ Some (parent_of one.gather.parent)
-    parent_is one there = ap parent_at (gather_known w accepted known a number ∙ ap (option_map gather_of) there)
-
     opens : (own : ℕ) → parent_at (known.world.gather a number) ≡ Some (model.client own) → (b : Bool) → nat_eq request own ≡ b → b ≡ false
     opens own is false apart = refl
     opens own is true same =
@@ -165,4 +212,4 @@ idle_unserved w accepted known request idle a number = by ((w.agent a).gather nu
 
     by : (o : Option OpenGather) → (w.agent a).gather number ≡ o → serves_request request o ≡ false
     by None there = refl
-    by (Some one) there = of_parent one.gather.parent (parent_is one there)
+    by (Some one) there = of_parent one.gather.parent (parent_known w accepted known a number one there)

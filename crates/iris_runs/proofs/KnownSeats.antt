@@ -19,13 +19,13 @@ use Rattle.iris_gather.specs.Gathers.{need_at}
 use Rattle.iris_gather.specs.OpenGathers.{awaits}
 use Rattle.iris_protocol.specs.Table.{AgentId, agents, Each, Among}
 use Rattle.iris_protocol.specs.World as model
-use Rattle.iris_protocol.specs.Good.{IsHeld, IsInTransit, NodeGood, IsSound, KnownDemand, PostGood, pending_at}
+use Rattle.iris_protocol.specs.Good.{IsHeld, IsInTransit, NodeGood, IsSound, KnownDemand, pending_at}
 use Rattle.iris_protocol.specs.Program.{Known}
-use Rattle.iris_protocol.proofs.Tables.{split, of_some}
+use Rattle.iris_protocol.proofs.Tables.{split}
 use Rattle.iris_protocol.proofs.Nodes.{holder, handover_is}
 use Rattle.iris_runs.specs.Letters.{gather_of, mail_of, letter_of}
-use Rattle.iris_runs.specs.Worlds.{Sent, World, post_of, program_of}
-use Rattle.iris_runs.proofs.KnownCities.{seat_known, post_known}
+use Rattle.iris_runs.specs.Worlds.{Sent, World, program_of}
+use Rattle.iris_runs.proofs.KnownCities.{seat_known, post_good}
 
 -- ---- owners
 
@@ -60,11 +60,8 @@ none_owns w accepted known k sent handed there is free a = sym (last_known w acc
     good : NodeGood node
     good = known.good.titles.nodes handed.name
 
-    kept : PostGood known.world.node known.world.requested known.world.asks (post_of sent)
-    kept = of_some (PostGood known.world.node known.world.requested known.world.asks) (known.world.posted.post k) (post_of sent) (post_known w accepted known k ∙ ap (option_map post_of) there) (known.good.letters.kept k)
-
     sound : IsSound known.world.node sent.to (model.handover handed.name handed.epoch handed.last)
-    sound = subst (λ (message : Message). IsSound known.world.node sent.to (letter_of message)) is kept.sound
+    sound = subst (λ (message : Message). IsSound known.world.node sent.to (letter_of message)) is (post_good w accepted known k sent there).sound
 
     same : (node.seat sent.to).taken ≡ ((w.agent sent.to).seat handed.name).taken
     same = ap (λ (s : model.Seat). s.taken) (seat_known w accepted known sent.to handed.name)

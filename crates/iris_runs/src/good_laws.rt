@@ -1,5 +1,5 @@
 //! A good city stays one, and what its agents' calls ask for is so.
-ghost use Rattle.std.specs.Prelude.{◌≡◌, ℕ, ◌≤◌, Bool, true, false, List, Option, Some, None, IsSome, IfSome, map};
+ghost use Rattle.std.specs.Prelude.{◌≡◌, ℕ, ◌<◌, ◌≤◌, Bool, true, false, List, Option, Some, None, IsSome, IfSome, map};
 ghost use Rattle.iris_base.specs.declared.name.Label.{Label};
 ghost use Rattle.iris_tree.specs.Universe.{node_at};
 ghost use Rattle.iris_tree.specs.declared.change.Change.{Change};
@@ -18,6 +18,7 @@ ghost use Rattle.iris_cache.specs.Recency.{is_complete};
 ghost use Rattle.iris_migrate.specs.declared.key.Key.TheVariants as keys;
 ghost use Rattle.iris_migrate.specs.declared.message.Handover.{Handover as Handed};
 ghost use Rattle.iris_migrate.specs.declared.message.Message.TheVariants.{Handover};
+ghost use Rattle.iris_migrate.specs.Messages.{key_of};
 ghost use Rattle.iris_migrate.specs.Titles.{is_parked};
 ghost use Rattle.iris_gather.specs.declared.basis.Basis.{Basis};
 ghost use Rattle.iris_gather.specs.declared.entries.OpenGather.{OpenGather};
@@ -39,12 +40,17 @@ ghost use Rattle.iris_runs.specs.Starts.{KeptUpdates, IsStart};
 ghost use Rattle.iris_runs.specs.Letters.{rank_of, need_of, letter_of, agent_of};
 ghost use Rattle.iris_runs.specs.Worlds.{Sent, World, owner_of};
 
-/// In a good city each agent may do what its calls ask for: numbers are free, the book's newest values are
-/// those of the owners, a handover fits, and what an evaluation lacks is in the registry, lies below its
-/// start, and is missing once. This call does nothing.
+/// In a good city each agent may do what its calls ask for: numbers are free, each request of a post or of an
+/// open gather was made, one of an open gather has no outcome, an ask is pending at one gather of its agent,
+/// the book's newest values are those of the owners, a handover fits, and what an evaluation lacks is in the
+/// registry, lies below its start, and is missing once. This call does nothing.
 pub fn agents_may_act()
     ensures free { (w : World) (past : Past) → IsGood w past → (a : List ℕ) (number : ℕ) → w.turn.next_gather ≤ number → (w.agent a).gather number ≡ None }
     ensures free_asks { (w : World) (past : Past) → IsGood w past → (a : List ℕ) (ask number : ℕ) → w.turn.next_ask ≤ ask → awaits ask ((w.agent a).gather number) ≡ false }
+    ensures posted { (w : World) (past : Past) → IsGood w past → (k : ℕ) (sent : Sent) (request : ℕ) → w.post k ≡ Some sent → key_of sent.message ≡ Some (keys.Request request) → request < w.requests }
+    ensures clients { (w : World) (past : Past) → IsGood w past → (a : List ℕ) (number : ℕ) (one : OpenGather) (request : ℕ) → (w.agent a).gather number ≡ Some one → one.gather.parent ≡ parents.Client request → request < w.requests }
+    ensures undecided { (w : World) (past : Past) → IsGood w past → (a : List ℕ) (number : ℕ) (one : OpenGather) (request : ℕ) → (w.agent a).gather number ≡ Some one → one.gather.parent ≡ parents.Client request → w.closed request ≡ false }
+    ensures awaited { (w : World) (past : Past) → IsGood w past → (a : List ℕ) (ask number : ℕ) → awaits ask ((w.agent a).gather number) ≡ true → IsWaitedFor (w.agent a).gather ask (Some number) }
     ensures once { (w : World) (past : Past) → IsGood w past → (a : List ℕ) (number : ℕ) → IfSome ((w.agent a).gather number) WaitsOnce }
     ensures ask { (w : World) (past : Past) → IsGood w past → (a : List ℕ) (ask number : ℕ) → (w.agent a).asked ask ≡ false → serves_ask ask ((w.agent a).gather number) ≡ false }
     ensures handover { (w : World) (past : Past) → IsGood w past → (k : ℕ) (to : List ℕ) (handed : Handed) → w.post k ≡ Some (record { to = to; message = Handover handed }) → FitsAt (w.agent to) handed }
