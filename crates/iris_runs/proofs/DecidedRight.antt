@@ -53,7 +53,7 @@ use Rattle.iris_runs.proofs.StayRight.{parent_later, later_asked, agent_asked, w
 -- ---- asks by their numbers
 
 -- what is so of each item at its number is so of the numbered items
-each_numbered : {X : Type 0} (P : ℕ → X → Type 0) (n : ℕ) (xs : List X) → ((i : ℕ) (x : X) → slice_get xs i ≡ Some x → Contains xs x → P (n + i) x) → All (λ e. P e.0 e.1) (enumerate_from n xs)
+pub each_numbered : {X : Type 0} (P : ℕ → X → Type 0) (n : ℕ) (xs : List X) → ((i : ℕ) (x : X) → slice_get xs i ≡ Some x → Contains xs x → P (n + i) x) → All (λ e. P e.0 e.1) (enumerate_from n xs)
 each_numbered P n [] each = All-nil (λ e. P e.0 e.1)
 each_numbered {X} P n (x ∷ xs) each =
     All-cons (λ (e : ℕ × X). P e.0 e.1) (n, x) (enumerate_from (n + 1) xs) (subst (λ (k : ℕ). P k x) (omega arith) (each 0 x refl (contains_first x xs)))

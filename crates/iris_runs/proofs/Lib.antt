@@ -36,3 +36,5 @@ pub mod StayGood
 pub mod AnswersRight
 pub mod StartGood
 pub mod AtRest
+pub mod AmongAgents
+pub mod AmongCities

@@ -1,5 +1,6 @@
 pub mod Acting
 pub mod Alike
+pub mod Among
 pub mod Answers
 pub mod Asking
 pub mod Depths

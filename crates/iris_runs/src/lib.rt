@@ -6,12 +6,14 @@
 //! history of the protocol leads to it, what its agents hold, gather and send was so of the nodes, and no
 //! number is used twice (`specs/Good.antt`). It begins so and stays so, whatever happens; so its agents may do
 //! what their calls ask for, and each answer is allowed by what was entered before it. Where nothing is under
-//! way it is at rest: each request has its outcome.
+//! way it is at rest: each request has its outcome. Nothing is ever sent to an agent that is not of the city
+//! (`specs/Among.antt`).
 //!
 //! There is no code here: each law is a call that does nothing. The edits in `must-fail/` are of definitions.
 #![tactic(auto)]
 
 mod agent_laws;
+mod among_laws;
 mod answer_laws;
 mod copy_laws;
 mod depth_laws;
@@ -21,6 +23,7 @@ mod world_laws;
 pub use agent_laws::{
     agents_arrive_by_the_protocol, agents_decide_by_the_protocol, agents_move_by_the_protocol,
 };
+pub use among_laws::cities_keep_their_agents;
 pub use answer_laws::answers_stay_allowed;
 pub use copy_laws::{
     agents_stay_right, arrivals_keep_copies, decisions_keep_copies, moments_go_on,
