@@ -81,7 +81,7 @@ arrived_answers w past kept waiting sent good other book turn right = quiet_step
     here : AreAnswersAllowed other.history left.turn.now
     here = subst (λ h. AreAnswersAllowed h left.turn.now) (sym book) (subst (AreAnswersAllowed w.history) (sym follows.now_is) right)
 
-    entered : (left.entries ≡ []) ⊎ Enters (w.agent sent.to) (node_of sent.message) left.entries → AnswersRightly (begun other sent.to left)
+    entered : (left.entries ≡ []) ⊎ Enters (w.agent sent.to) (node_of sent.message) left → AnswersRightly (begun other sent.to left)
     entered (inl none) = subst (λ es. AreAnswersAllowed (fold with_entry other.history es) left.turn.now) (sym none) here
     entered (inr enters) = subst (λ es. AreAnswersAllowed (fold with_entry other.history es) left.turn.now) (sym enters.is) (answers_lasting other.history left.turn.now (entries.Updated enters.place enters.number enters.changes enters.local enters.at) refl here)
 

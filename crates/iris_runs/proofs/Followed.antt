@@ -11,7 +11,6 @@ use Rattle.iris_base.specs.NameOrder.{label_eq}
 use Rattle.iris_tree.specs.declared.change.Change.{Change}
 use Rattle.iris_tree.specs.declared.local.Local.{Local}
 use Rattle.iris_fragment.specs.declared.piece.Piece.{Piece}
-use Rattle.iris_book.specs.declared.entry.Entry.{Entry}
 use Rattle.iris_book.specs.declared.entry.Entry.TheVariants.{Updated}
 use Rattle.iris_cache.specs.Recency.{renewed_in, taken_all}
 use Rattle.iris_migrate.specs.declared.direct.Direct.{Direct}
@@ -54,14 +53,17 @@ IsFollowUp of (steps.Answered request query floor items cites) = ⊥
 IsFollowUp of (steps.Accepted request version) = Unit {0}
 IsFollowUp of (steps.Refused request refusal) = Unit {0}
 
--- What is entered is an update of that node, which the agent owns.
-pub record Enters (t : Tables) (node : Option (List Label)) (es : List Entry) : Type 0 where
+-- What is entered is an update of that node, which the agent owns. It is accepted, and nothing else follows.
+pub record Enters (t : Tables) (node : Option (List Label)) (h : Handled) : Type 0 where
   pub place : List Label
   pub number : ℕ
   pub changes : List Change
   pub local : Local
   pub at : ℕ
-  pub is : es ≡ Updated place number changes local at ∷ []
+  pub request : ℕ
+  pub version : ℕ
+  pub is : h.entries ≡ Updated place number changes local at ∷ []
+  pub told : h.steps ≡ steps.Accepted request version ∷ []
   pub owned : IsSome (t.seat place).last
   pub of : node ≡ Some place
 
@@ -72,7 +74,7 @@ pub record Follows (t : Tables) (turn : Turn) (node : Option (List Label)) (h : 
   pub id_is : h.tables.id ≡ t.id
   pub taken : (name : List Label) → (t.seat name).taken ≤ (h.tables.seat name).taken
   pub knows : KnowsItsAsks t → KnowsItsAsks h.tables
-  pub entered : (h.entries ≡ []) ⊎ Enters t node h.entries
+  pub entered : (h.entries ≡ []) ⊎ Enters t node h
   pub sends : All (IsFollowUp node) h.steps
 
 pub follows_nothing : (t : Tables) (turn : Turn) (node : Option (List Label)) → Follows t turn node (only_change t turn)
@@ -93,7 +95,7 @@ follows_made true t turn request name number changes owns (Ok local) = record {
   id_is = refl;
   taken = taken_seated t name (with_last (t.seat name) number) (omega arith);
   knows = λ k. asks_seated (with_cache t (renewed_in t.cache name local)) name (with_last (t.seat name) number) (λ ask h. h) (asks_cached t (renewed_in t.cache name local) k);
-  entered = inr (record { place = name; number = number; changes = changes; local = local; at = turn.now; is = refl; owned = owns; of = refl });
+  entered = inr (record { place = name; number = number; changes = changes; local = local; at = turn.now; request = request; version = _; is = refl; told = refl; owned = owns; of = refl });
   sends = All-cons (IsFollowUp (Some name)) _ [] tt (All-nil (IsFollowUp (Some name)));
 }
 

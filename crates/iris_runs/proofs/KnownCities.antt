@@ -51,6 +51,10 @@ pub closed_known : (w : World) (accepted : List model.Entry) (known : Known (pro
 unfolding program_of
 closed_known w accepted known request = ap (λ (t : Program). t.closed request) known.is
 
+pub book_known : (w : World) (accepted : List model.Entry) (known : Known (program_of w accepted)) → known.world.book ≡ accepted
+unfolding program_of
+book_known w accepted known = ap (λ (t : Program). t.book) known.is
+
 pub gathers_known : (w : World) (accepted : List model.Entry) (known : Known (program_of w accepted)) → known.world.gathers ≡ w.turn.next_gather
 unfolding program_of
 gathers_known w accepted known = ap (λ (t : Program). t.next_gather) known.is

@@ -19,13 +19,14 @@ use Rattle.iris_gather.specs.Gathers.{need_at}
 use Rattle.iris_gather.specs.OpenGathers.{awaits}
 use Rattle.iris_protocol.specs.Table.{AgentId, agents, Each, Among}
 use Rattle.iris_protocol.specs.World as model
+use Rattle.iris_protocol.specs.World.{last_number}
 use Rattle.iris_protocol.specs.Good.{IsHeld, IsInTransit, NodeGood, IsSound, KnownDemand, pending_at}
 use Rattle.iris_protocol.specs.Program.{Known}
 use Rattle.iris_protocol.proofs.Tables.{split}
 use Rattle.iris_protocol.proofs.Nodes.{holder, handover_is}
 use Rattle.iris_runs.specs.Letters.{gather_of, mail_of, letter_of}
 use Rattle.iris_runs.specs.Worlds.{Sent, World, program_of}
-use Rattle.iris_runs.proofs.KnownCities.{seat_known, post_good}
+use Rattle.iris_runs.proofs.KnownCities.{seat_known, book_known, post_good}
 
 -- ---- owners
 
@@ -48,6 +49,19 @@ others_own_none w accepted known a b name owns apart = sym (last_known w accepte
 
     held : (a ≡ (known.world.node name).owner) × IsHeld (known.world.node name)
     held = holder (known.world.node name) a last.0 good (last_known w accepted known a name ∙ last.1)
+
+-- the number of the last update that an owner has is the last that was accepted
+pub owner_number : (w : World) (accepted : List model.Entry) → Known (program_of w accepted) → (a : AgentId) (name : List Label) (number : ℕ) → ((w.agent a).seat name).last ≡ Some number → number ≡ last_number name accepted
+owner_number w accepted known a name number is = newest ∙ known.good.booked.newest name ∙ ap (last_number name) (book_known w accepted known)
+  where
+    node : model.Node
+    node = known.world.node name
+
+    held : (a ≡ node.owner) × IsHeld node
+    held = holder node a number (known.good.titles.nodes name) (last_known w accepted known a name ∙ is)
+
+    newest : number ≡ node.newest
+    newest = let same : Some number ≡ Some node.newest = sym (last_known w accepted known a name ∙ is) ∙ ap (λ (b : AgentId). (node.seat b).last) held.0 ∙ held.1.last in cc
 
 -- while a handover is on its way that its addressee would take, no agent owns the node
 pub none_owns : (w : World) (accepted : List model.Entry) → Known (program_of w accepted) → (k : ℕ) (sent : Sent) (handed : Handed) → w.post k ≡ Some sent → sent.message ≡ Handover handed

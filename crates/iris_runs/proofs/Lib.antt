@@ -33,6 +33,7 @@ pub mod StayGiven
 pub mod StayDecided
 pub mod StayArrived
 pub mod StayGood
+pub mod BookTies
 pub mod AnswersRight
 pub mod StartGood
 pub mod AtRest

@@ -1,5 +1,5 @@
 -- A city as it starts is good.
-use Rattle.std.proofs.Common.{◌≡◌, ℕ, Bool, true, false, if◌then◌else◌, List, [], All, Some, None, IfSome, option_map, refl, sym, ap, subst, ◌∙◌}
+use Rattle.std.proofs.Common.{◌≡◌, ℕ, Bool, true, false, if◌then◌else◌, List, [], ◌∷◌, All, Some, None, IfSome, option_map, refl, sym, ap, subst, ◌∙◌}
 use Rattle.std.proofs.lemmas.Bool.{false≢true}
 use Rattle.std.proofs.lemmas.List.Elements.{All-nil}
 use Rattle.iris_base.specs.declared.name.Label.{Label}
@@ -15,10 +15,11 @@ use Rattle.iris_protocol.specs.Program.{Program, Known}
 use Rattle.iris_protocol.specs.Table.{AgentId, agents}
 use Rattle.iris_protocol.specs.World as model
 use Rattle.iris_protocol.specs.World.{entries, last_number}
+use Rattle.iris_runs.specs.Entered.{KeptUpdates, updates_accepted}
 use Rattle.iris_runs.specs.Good.{Past, KnowsItsAsks, IsPostAt, IsGood, moment_of}
 use Rattle.iris_runs.specs.Letters.{agent_of, gather_of, seat_of}
 use Rattle.iris_runs.specs.Moments.{Wanted, IsGatherAt, IsMessageAt, IsAgentAt}
-use Rattle.iris_runs.specs.Starts.{KeptUpdates, IsAgentStart, IsStart}
+use Rattle.iris_runs.specs.Starts.{IsAgentStart, IsStart}
 use Rattle.iris_runs.specs.Worlds.{World, owner_of, epoch_of, post_of, program_of}
 
 -- ---- by the protocol
@@ -86,6 +87,10 @@ agent_knows rows w a t is = record {
 
 -- ---- all
 
+rows_accepted : (rows : KeptUpdates) → updates_accepted (entries rows) ≡ rows
+rows_accepted [] = refl
+rows_accepted (row ∷ rows) = ap (λ (others : KeptUpdates). row ∷ others) (rows_accepted rows)
+
 abbrev past_begun : KeptUpdates → Past
 past_begun rows = record { accepted = entries rows; wanted = λ ask. record { floor = 0; name = []; level = level.Ids } }
 
@@ -94,6 +99,7 @@ begun_good rows w is = (
   past_begun rows,
   record {
     known = record { world = model.start (owner_of w.registry) (epoch_of w.registry) rows; is = program_begun rows w is; good = start_good (owner_of w.registry) (epoch_of w.registry) rows };
+    entered = rows_accepted rows ∙ is.entered;
     present = is.present;
     labels = is.labels;
     ids = λ a. (is.agents_are a).id_is;

@@ -24,10 +24,11 @@ use Rattle.iris_agent.specs.Arrivals as at_agent
 use Rattle.iris_agent.specs.Handled.{Handled}
 use Rattle.iris_copies.specs.Copies.{IsPresent, ComesAt}
 use Rattle.iris_copies.proofs.Times.{present_entry}
-use Rattle.iris_protocol.specs.Program.{Tells, TellsEvent, program_happens}
+use Rattle.iris_protocol.specs.Program.{Tells, TellsEvent, program_arrives, program_happens}
 use Rattle.iris_protocol.specs.Table.{AgentId, OfSome}
 use Rattle.iris_protocol.specs.World as model
-use Rattle.iris_runs.specs.Alike.{MayBeHandled, IsWaitedFor}
+use Rattle.iris_runs.specs.Alike.{MayBeHandled, IsWaitedFor, arrival_at}
+use Rattle.iris_runs.specs.Entered.{updates_entered, updates_accepted}
 use Rattle.iris_runs.specs.Good.{Past, moment_of, IsForCity, IsNewestIfTaken, IsPostAt, IsGood}
 use Rattle.iris_runs.specs.Happenings.{is_over, delivered}
 use Rattle.iris_runs.specs.Letters.{agent_of, letter_of, is_kept}
@@ -35,6 +36,7 @@ use Rattle.iris_runs.specs.Moments.{Wanted, Moment, with_entries, IsHandoverAt, 
 use Rattle.iris_runs.specs.Worlds.{Sent, World, marked, after, post_of, program_of}
 use Rattle.iris_runs.proofs.Acting.{may_be_handled}
 use Rattle.iris_runs.proofs.ArrivalsRight.{arrival_right}
+use Rattle.iris_runs.proofs.BookTies.{message_entered}
 use Rattle.iris_runs.proofs.UpdatedRight.{IsServed}
 use Rattle.iris_runs.proofs.Followed.{IsNoHandover, IsFollowUp, Enters, Follows}
 use Rattle.iris_runs.proofs.FollowedHandovers.{follows_message}
@@ -93,10 +95,10 @@ nothing_right w past a good = record {
   newest = λ k sent handed there is told free h. h;
 }
 
-enters_right : (w : World) (past : Past) (a : AgentId) (of : Option (List Label)) (es : List Entry) → (es ≡ []) ⊎ Enters (w.agent a) of es → IfSome of (λ name. IsSome (node_at w.history.start name))
-    → All (MayBeEntered w.history) es → All (ComesAt w.turn.now) es → IsGood w past → EntersRight w past.wanted a es
-enters_right w past a of es (inl none) place may comes good = subst (EntersRight w past.wanted a) (sym none) (nothing_right w past a good)
-enters_right w past a of es (inr one) place may comes good = subst (EntersRight w past.wanted a) (sym one.is)
+enters_right : (w : World) (past : Past) (a : AgentId) (of : Option (List Label)) (h : Handled) → (h.entries ≡ []) ⊎ Enters (w.agent a) of h → IfSome of (λ name. IsSome (node_at w.history.start name))
+    → All (MayBeEntered w.history) h.entries → All (ComesAt w.turn.now) h.entries → IsGood w past → EntersRight w past.wanted a h.entries
+enters_right w past a of h (inl none) place may comes good = subst (EntersRight w past.wanted a) (sym none) (nothing_right w past a good)
+enters_right w past a of h (inr one) place may comes good = subst (EntersRight w past.wanted a) (sym one.is)
     (update_right w past a one.place one.number one.changes one.local one.at
     (subst (λ (o : Option (List Label)). IfSome o (λ name. IsSome (node_at w.history.start name))) one.of place) one.owned
     (All-head (MayBeEntered w.history) _ [] (subst (All (MayBeEntered w.history)) one.is may))
@@ -165,7 +167,7 @@ module _ (w : World) (past : Past) (kept : Bool) (waiting : Option ℕ) (k : ℕ
 
   entered : EntersRight w past.wanted sent.to left.entries
   entered =
-      enters_right w past sent.to (node_of sent.message) left.entries follows.entered post.place served.entered served.comes good
+      enters_right w past sent.to (node_of sent.message) left follows.entered post.place served.entered served.comes good
 
   moment_is : moment_of (begun (marked w k) sent.to left) past.wanted ≡ with_entries (moment_of w past.wanted) left.entries
   moment_is = λ i. record (with_entries (moment_of w past.wanted) left.entries) { now = follows.now_is i; asks = follows.asks_are i }
@@ -210,6 +212,25 @@ delivered_right w past serving kept waiting k (Some sent) there waits good = by 
 
 -- ---- by the protocol
 
+-- what the protocol accepts as a post is delivered is entered
+delivered_entered : (w : World) (past : Past) (serving kept : Bool) (waiting : Option ℕ) (k : ℕ) (o : Option Sent) → w.post k ≡ o
+    → IfSome o (λ sent. (ask : ℕ) → letter_of sent.message ≡ model.reply ask → IsWaitedFor (w.agent sent.to).gather ask waiting)
+    → IsGood w past
+    → updates_accepted (program_arrives (program_of w past.accepted) serving (option_map_or (λ sent. is_kept kept (w.agent sent.to) sent.message) o false) k (option_map post_of o)).book ≡ updates_entered (delivered w serving kept waiting k o).history.entries
+unfolding program_of
+delivered_entered w past serving kept waiting k None there waits good = good.entered
+delivered_entered w past serving kept waiting k (Some sent) there waits good =
+    message_entered (marked w k) past.accepted serving kept waiting sent good.ids (may_be_handled w past good k sent waiting there waits)
+    (follows_message kept waiting (w.agent sent.to) w.turn sent.message (good.agents sent.to).placed (parked_at_one w past.accepted good.known sent.to)) good.entered
+
+-- in the words of the protocol's event
+arrival_entered : (w : World) (past : Past) (serving kept : Bool) (waiting : Option ℕ) (k : ℕ)
+    → IfSome (w.post k) (λ sent. (ask : ℕ) → letter_of sent.message ≡ model.reply ask → IsWaitedFor (w.agent sent.to).gather ask waiting)
+    → IsGood w past
+    → updates_accepted (program_happens (program_of w past.accepted) serving (arrival_at w kept k)).book ≡ updates_entered (delivered w serving kept waiting k (w.post k)).history.entries
+unfolding program_of
+arrival_entered w past serving kept waiting k waits good = delivered_entered w past serving kept waiting k (w.post k) refl waits good
+
 arrival_tells : (w : World) (accepted : List model.Entry) (serving ok : Bool) (k : ℕ) → IfSome (w.post k) (λ sent. Tells (λ a. agent_of (w.agent a)) serving (letter_of sent.message)) → TellsEvent (program_of w accepted) serving (model.Arrive k ok)
 unfolding program_of
 arrival_tells w accepted serving ok k tells = by (w.post k) tells
@@ -231,5 +252,6 @@ arrived_good w past serving kept waiting k tells waits good =
           (arrival_known w past.accepted serving kept waiting k good.known (arrival_tells w past.accepted serving ok k tells) good.ids
           (some_weaker (λ sent. (ask : ℕ) → letter_of sent.message ≡ model.reply ask → IsWaitedFor (w.agent sent.to).gather ask waiting) (λ sent. MayBeHandled (w.agent sent.to) waiting sent.message) (w.post k)
           (λ sent there h. may_be_handled w past good k sent waiting there h) waits))
+          (arrival_entered w past serving kept waiting k waits good)
           (delivered_right w past serving kept waiting k (w.post k) refl waits good),
     )

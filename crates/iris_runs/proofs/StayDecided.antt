@@ -45,6 +45,7 @@ use Rattle.iris_runs.proofs.DecidedRight.{decided_agent, decided_steps}
 use Rattle.iris_runs.proofs.DecisionTies.{verdict_asks}
 use Rattle.iris_runs.proofs.Knowing.{decision_known, commit_known}
 use Rattle.iris_runs.proofs.StayAsked.{asks_cached, asks_gathered}
+use Rattle.iris_runs.proofs.BookTies.{quiet_entered}
 use Rattle.iris_runs.proofs.StayGood.{IsRight, right_of, good_of, IsSendAt, begun, LeavesRight, after_right}
 use Rattle.iris_runs.proofs.StayRight.{later_asked, agent_asked}
 
@@ -89,6 +90,10 @@ module _ (w : World) (wanted : ℕ → Wanted) (a : AgentId) (number : ℕ) (one
   moment_then : (verdict : Verdict) → moment_of (begun w a (judged_at verdict)) (asked_then verdict).wanted ≡ asked_then verdict
   moment_then (Done support items) = let none : w.turn.next_ask ≡ w.turn.next_ask + 0 = omega arith in λ i. record (asked_then (Done support items)) { asks = none i }
   moment_then (Asks support missing) = refl
+
+  enters_nothing : (verdict : Verdict) → (judged_at verdict).entries ≡ []
+  enters_nothing (Done support items) = refl
+  enters_nothing (Asks support missing) = refl
 
   id_then : (verdict : Verdict) → (judged_at verdict).tables.id ≡ (w.agent a).id
   id_then (Done support items) = refl
@@ -194,5 +199,8 @@ pub decided_good : (w : World) (past : Past) (a : AgentId) (number : ℕ) (one :
     → IsGood w past
     → (after : Past) × IsGood (decided w a number basis (Some one)) after
 decided_good w past a number one basis there ready rests good =
-    let more : Past = record { accepted = past.accepted; wanted = (asked_by (moment_of w past.wanted) one.gather (asks_of basis.verdict)).wanted } in
-    (more, good_of (decided w a number basis (Some one)) more (decided_known w past a number one basis there ready rests good) (decided_right w past.wanted a number one basis there rests (right_of w past good)))
+    let more : Past = record { accepted = past.accepted; wanted = (asked_by (moment_of w past.wanted) one.gather (asks_of basis.verdict)).wanted } in (
+      more,
+      good_of (decided w a number basis (Some one)) more (decided_known w past a number one basis there ready rests good) (good.entered ∙ sym (quiet_entered w a (judged_at w past.wanted a number one basis basis.verdict) (enters_nothing w past.wanted a number one basis basis.verdict)))
+          (decided_right w past.wanted a number one basis there rests (right_of w past good)),
+    )

@@ -29,6 +29,7 @@ use Rattle.iris_runs.specs.Worlds.{World, owner_of, epoch_of}
 use Rattle.iris_runs.proofs.Knowing.{given_known}
 use Rattle.iris_runs.proofs.MovedRight.{given_right, handover_right}
 use Rattle.iris_runs.proofs.StayAsked.{asks_cached, asks_seated, taken_seated}
+use Rattle.iris_runs.proofs.BookTies.{nothing_entered}
 use Rattle.iris_runs.proofs.StayGood.{IsRight, right_of, good_of, some_weaker, IsSendAt, begun, LeavesRight, after_right}
 use Rattle.iris_runs.proofs.StayRight.{message_later, brings_still, later_entry, agent_entry}
 
@@ -60,7 +61,7 @@ pub given_good : (w : World) (past : Past) (name : List Label) (to : AgentId)
     → (after : Past) × IsGood (given w name to) after
 given_good w past name to apart place owns good = (
   past,
-  good_of (given w name to) past (given_known w past.accepted name to good.known titled apart owns)
+  good_of (given w name to) past (given_known w past.accepted name to good.known titled apart owns) (good.entered ∙ sym (nothing_entered w.history entry refl))
       (after_right titles past.wanted past.wanted owner left leaves (All-cons (IsSendAt (begun titles owner left) past.wanted) (steps.Post to (Handover handed)) [] sends (All-nil (IsSendAt (begun titles owner left) past.wanted)))
       (registered_right w past.wanted titles.registry (titled_still w.registry name (to, suc (epoch_of w.registry name)) titled) (right_of w past good))),
 )

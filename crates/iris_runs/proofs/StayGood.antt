@@ -24,12 +24,13 @@ use Rattle.iris_protocol.specs.Table.{AgentId, agents, set_at}
 use Rattle.iris_protocol.proofs.Tables.{at_each}
 use Rattle.iris_runs.specs.Alike.{HaveOwnIds}
 use Rattle.iris_runs.specs.Depths.{AreWithinLabels}
+use Rattle.iris_runs.specs.Entered.{updates_entered, updates_accepted}
 use Rattle.iris_runs.specs.Good.{Past, moment_of, KnowsItsAsks, IsNewestIfTaken, IsPostAt, IsGood}
 use Rattle.iris_runs.specs.Moments.{Wanted, IsMessageAt, IsHandoverAt, IsAgentAt, IsLater, BringsNewest}
 use Rattle.iris_runs.specs.Worlds.{Sent, World, posting, closes, with_agent, stepped, after, program_of}
 use Rattle.iris_runs.proofs.StayRight.{message_later, brings_still, later_entry, agent_entry}
 
--- all clauses of a good city but that of the protocol
+-- all clauses of a good city but those of the protocol
 pub record IsRight (w : World) (wanted : ℕ → Wanted) : Type 0 where
   pub present : IsPresent w.history w.turn.now
   pub labels : AreWithinLabels w.history.start
@@ -42,8 +43,8 @@ pub record IsRight (w : World) (wanted : ℕ → Wanted) : Type 0 where
 pub right_of : (w : World) (past : Past) → IsGood w past → IsRight w past.wanted
 right_of w past good = record { present = good.present; labels = good.labels; ids = good.ids; agents_are = good.agents; asks = good.asks; registered = good.registered; posts_are = good.posts }
 
-pub good_of : (w : World) (past : Past) → Known (program_of w past.accepted) → IsRight w past.wanted → IsGood w past
-good_of w past known right = record { known = known; present = right.present; labels = right.labels; ids = right.ids; agents = right.agents_are; asks = right.asks; registered = right.registered; posts = right.posts_are }
+pub good_of : (w : World) (past : Past) → Known (program_of w past.accepted) → updates_accepted past.accepted ≡ updates_entered w.history.entries → IsRight w past.wanted → IsGood w past
+good_of w past known entered right = record { known = known; entered = entered; present = right.present; labels = right.labels; ids = right.ids; agents = right.agents_are; asks = right.asks; registered = right.registered; posts = right.posts_are }
 
 -- ---- tables
 

@@ -34,7 +34,7 @@ pub query_good : (w : World) (past : Past) (asked : Syntax) (name : List Label) 
     → (after : Past) × IsGood (query_posted w asked name floor) after
 query_good w past asked name floor place before good = (
   past,
-  good_of (query_posted w asked name floor) past (query_known w past.accepted asked name floor good.known)
+  good_of (query_posted w asked name floor) past (query_known w past.accepted asked name floor good.known) good.entered
       (requested_right (posting w (owner_of w.registry name) message) past.wanted (suc w.requests)
       (posting_right w past.wanted (owner_of w.registry name) message (record { message = before; place = place; newest = tt }) (right_of w past good))),
 )
@@ -48,7 +48,7 @@ pub update_good : (w : World) (past : Past) (name : List Label) (number : ℕ) (
     → (after : Past) × IsGood (update_posted w name number changes) after
 update_good w past name number changes place good = (
   past,
-  good_of (update_posted w name number changes) past (update_known w past.accepted name number changes good.known)
+  good_of (update_posted w name number changes) past (update_known w past.accepted name number changes good.known) good.entered
       (requested_right (posting w (owner_of w.registry name) message) past.wanted (suc w.requests)
       (posting_right w past.wanted (owner_of w.registry name) message (record { message = tt; place = place; newest = tt }) (right_of w past good))),
 )
@@ -58,5 +58,5 @@ update_good w past name number changes place good = (
 
 pub counted_good : (w : World) (past : Past) → IsGood w past → IsGood (counted w) past
 counted_good w past good =
-    good_of (counted w) past (counted_known w past.accepted good.known)
+    good_of (counted w) past (counted_known w past.accepted good.known) good.entered
     (requested_right (closes w w.requests) past.wanted (suc w.requests) (closed_right w past.wanted w.requests (right_of w past good)))

@@ -15,7 +15,7 @@ use Rattle.iris_agent.specs.Handled.{only_change}
 use Rattle.iris_agent.specs.Handovers.{own_in}
 use Rattle.iris_agent.specs.Tables.{Tables, with_cache, with_gather}
 use Rattle.iris_copies.specs.Copies.{IsNewest}
-use Rattle.iris_copies.proofs.Times.{present_later, present_forgotten, newest_forgotten}
+use Rattle.iris_copies.proofs.Times.{same_updates, present_later, present_forgotten, newest_forgotten}
 use Rattle.iris_protocol.specs.Program.{Known, ProgramAllows}
 use Rattle.iris_protocol.specs.Table.{AgentId, agents}
 use Rattle.iris_protocol.specs.World as model
@@ -25,6 +25,7 @@ use Rattle.iris_runs.specs.Happenings.{lent_there, evicted_at, advanced, forgott
 use Rattle.iris_runs.specs.Letters.{agent_of}
 use Rattle.iris_runs.specs.Moments.{Wanted, IsAgentAt, BringsNewest}
 use Rattle.iris_runs.specs.Worlds.{Sent, World, with_agent, program_of}
+use Rattle.iris_runs.proofs.BookTies.{newest_first}
 use Rattle.iris_runs.proofs.Knowing.{advanced_known, evicted_known, lent_known, back_known, forgotten_known}
 use Rattle.iris_runs.proofs.KnownSeats.{awaits_pending}
 use Rattle.iris_runs.proofs.StayAsked.{asks_cached, asks_lent, asks_forgotten}
@@ -36,6 +37,7 @@ use Rattle.iris_runs.proofs.StayRight.{later_time, later_forgotten, agent_time, 
 pub advanced_good : (w : World) (past : Past) (moment : ℕ) → w.turn.now ≤ moment → IsGood w past → IsGood (advanced w moment) past
 advanced_good w past moment le good = record {
   known = advanced_known w past.accepted moment good.known;
+  entered = good.entered;
   present = present_later w.history w.turn.now moment le good.present;
   labels = good.labels;
   ids = good.ids;
@@ -66,7 +68,7 @@ pub evicted_good : (w : World) (past : Past) (a : AgentId) (name : List Label)
     → is_complete (w.agent a).cache.contents name ≡ true
     → IsGood w past
     → IsGood (evicted_at w a name) past
-evicted_good w past a name complete good = good_of (evicted_at w a name) past (evicted_known w past.accepted a name good.known)
+evicted_good w past a name complete good = good_of (evicted_at w a name) past (evicted_known w past.accepted a name good.known) good.entered
     (quiet_right w past.wanted a (with_cache (w.agent a) (evicted_from (w.agent a).cache name)) refl (λ other. omega arith)
     (agent_evicted (moment_of w past.wanted) (w.agent a) name complete (good.agents a)) (asks_cached (w.agent a) (evicted_from (w.agent a).cache name) (good.asks a)) (right_of w past good))
 
@@ -80,7 +82,7 @@ pub lent_good : (w : World) (past : Past) (a : AgentId) (number : ℕ)
     → is_due ((w.agent a).gather number) ≡ true
     → IsGood w past
     → (after : Past) × IsGood (lent_there w a number true) after
-lent_good w past a number due good = (past, good_of (lent_there w a number true) past (by ((w.agent a).gather number) refl due) (lent_right w past a number true good))
+lent_good w past a number due good = (past, good_of (lent_there w a number true) past (by ((w.agent a).gather number) refl due) good.entered (lent_right w past a number true good))
   where
     by : (o : Option OpenGather) → (w.agent a).gather number ≡ o → is_due o ≡ true → Known (program_of (lent_there w a number true) past.accepted)
     by None there h = absurd (cc)
@@ -104,7 +106,7 @@ back_good w past a number good = by ((w.agent a).gather number) refl
     same e = (past, subst (λ (x : World). IsGood x past) (sym (unlent_same w a number e)) good)
 
     lent_is : (one : OpenGather) (lent : Bool) → one.lent ≡ lent → (w.agent a).gather number ≡ Some one → (after : Past) × IsGood (lent_there w a number false) after
-    lent_is one true e there = (past, good_of (lent_there w a number false) past (back_known w past.accepted a number one good.known there e) (lent_right w past a number false good))
+    lent_is one true e there = (past, good_of (lent_there w a number false) past (back_known w past.accepted a number one good.known there e) good.entered (lent_right w past a number false good))
     lent_is one false e there = same (ap (option_map (with_lent false)) there ∙ (λ i. Some (record one { lent = sym e i })) ∙ sym there)
 
     by : (o : Option OpenGather) → (w.agent a).gather number ≡ o → (after : Past) × IsGood (lent_there w a number false) after
@@ -153,4 +155,4 @@ pub forgotten_good : (w : World) (past : Past) (stays : AgentId → ℕ → Bool
     → ((a : AgentId) (name : List Label) (ask : ℕ) → is_parked ((w.agent a).seat name) (Some (keys.Ask ask)) ≡ true → stays a ask ≡ true)
     → IsGood w past
     → (after : Past) × IsGood (forgotten w stays) after
-forgotten_good w past stays waits serves parks good = (past, good_of (forgotten w stays) past (forgotten_known w past.accepted stays good.known (forgets_allowed w past.accepted stays waits)) (forgotten_right w past.wanted stays serves parks (right_of w past good)))
+forgotten_good w past stays waits serves parks good = (past, good_of (forgotten w stays) past (forgotten_known w past.accepted stays good.known (forgets_allowed w past.accepted stays waits)) (good.entered ∙ ap newest_first (same_updates w.history)) (forgotten_right w past.wanted stays serves parks (right_of w past good)))

@@ -111,13 +111,22 @@ arrives_keeps_asks kept waiting t turn (Handover handed) = by (nat_le handed.epo
     by false = refl
 
 -- the city and the protocol drop the same messages
-over_alike : (w : World) (accepted : List model.Entry) (serving : Bool) (message : Message) → is_over_letter (program_of w accepted) serving (letter_of message) ≡ is_over w serving message
+pub over_alike : (w : World) (accepted : List model.Entry) (serving : Bool) (message : Message) → is_over_letter (program_of w accepted) serving (letter_of message) ≡ is_over w serving message
 unfolding program_of
 over_alike w accepted serving (Query request asked name epoch floor) = refl
 over_alike w accepted serving (Ask number from asked start epoch floor) = refl
 over_alike w accepted serving (Reply number pieces) = refl
 over_alike w accepted serving (Update request name epoch number changes) = refl
 over_alike w accepted serving (Handover handed) = refl
+
+-- what an agent does as a message arrives is what the protocol says of it
+pub message_alike : (w : World) (kept : Bool) (waiting : Option ℕ) (sent : Sent)
+    → HaveOwnIds w
+    → MayBeHandled (w.agent sent.to) waiting sent.message
+    → arrival_of (arrives kept waiting (w.agent sent.to) w.turn sent.message) ≡ protocol.agent_arrives sent.to (agent_of (w.agent sent.to)) (is_kept kept (w.agent sent.to) sent.message) w.turn.next_gather (letter_of sent.message)
+message_alike w kept waiting sent own may =
+    message_handled kept waiting (w.agent sent.to) w.turn sent.message may
+    ∙ ap (λ (id : AgentId). protocol.agent_arrives id (agent_of (w.agent sent.to)) (is_kept kept (w.agent sent.to) sent.message) w.turn.next_gather (letter_of sent.message)) (own sent.to)
 
 -- a message arrives
 message_told : (w : World) (accepted : List model.Entry) (serving kept : Bool) (waiting : Option ℕ) (sent : Sent)
@@ -138,16 +147,12 @@ message_told w accepted serving kept waiting sent own may =
     told : protocol.Handled
     told = protocol.agent_arrives sent.to (agent_of t) (is_kept kept t sent.message) w.turn.next_gather (letter_of sent.message)
 
-    alike : arrival_of left ≡ told
-    alike = message_handled kept waiting t w.turn sent.message may
-        ∙ ap (λ (id : AgentId). protocol.agent_arrives id (agent_of t) (is_kept kept t sent.message) w.turn.next_gather (letter_of sent.message)) (own sent.to)
-
     by : (b over : Bool) → b ≡ over → program_of (if over then w else after w sent.to left) (if b then program_of w accepted else after_arrival (program_of w accepted) sent.to told).book
         ≡ (if b then program_of w accepted else after_arrival (program_of w accepted) sent.to told)
     by true true same = refl
     by true false same = absurd (cc)
     by false true same = absurd (cc)
-    by false false same = arrival_told w accepted sent.to left told (arrives_keeps_asks kept waiting t w.turn sent.message) alike
+    by false false same = arrival_told w accepted sent.to left told (arrives_keeps_asks kept waiting t w.turn sent.message) (message_alike w kept waiting sent own may)
 
 -- a post is delivered, if it is kept
 delivery_told : (w : World) (accepted : List model.Entry) (serving kept : Bool) (waiting : Option ℕ) (k : ℕ) (o : Option Sent)

@@ -15,6 +15,7 @@ use Rattle.iris_protocol.specs.Program.{Known}
 use Rattle.iris_protocol.specs.World as model
 use Rattle.iris_runs.specs.Alike.{HaveOwnIds}
 use Rattle.iris_runs.specs.Depths.{AreWithinLabels}
+use Rattle.iris_runs.specs.Entered.{updates_entered, updates_accepted}
 use Rattle.iris_runs.specs.Moments.{Wanted, Moment, IsMessageAt, IsAgentAt, BringsNewest}
 use Rattle.iris_runs.specs.Worlds.{Sent, World, program_of}
 
@@ -61,6 +62,8 @@ pub record IsPostAt (w : World) (wanted : ℕ → Wanted) (sent : Sent) : Type 0
 pub record IsGood (w : World) (past : Past) : Type 0 where
   -- it has a history by the protocol: each node has one title, what is parked waits, asks are carried, numbers are fresh
   pub known : Known (program_of w past.accepted)
+  -- the updates in its book are those that the protocol accepted
+  pub entered : updates_accepted past.accepted ≡ updates_entered w.history.entries
   pub present : IsPresent w.history w.turn.now
   pub labels : AreWithinLabels w.history.start
   -- each agent has its own id, and what it holds and gathers is right

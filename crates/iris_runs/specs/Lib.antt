@@ -4,6 +4,7 @@ pub mod Among
 pub mod Answers
 pub mod Asking
 pub mod Depths
+pub mod Entered
 pub mod Good
 pub mod Happenings
 pub mod Letters

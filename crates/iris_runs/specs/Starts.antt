@@ -11,12 +11,9 @@ use Rattle.iris_copies.specs.Copies.{IsPresent, HoldsCopies}
 use Rattle.iris_protocol.specs.Table.{AgentId, agents}
 use Rattle.iris_protocol.specs.World.{entries, last_number}
 use Rattle.iris_runs.specs.Depths.{AreWithinLabels}
+use Rattle.iris_runs.specs.Entered.{KeptUpdates, updates_entered}
 use Rattle.iris_runs.specs.Moments.{IsOrderly}
 use Rattle.iris_runs.specs.Worlds.{World, owner_of}
-
--- the updates among rows that were kept, the newest first: each with its node and its number
-abbrev pub KeptUpdates : Type 0
-KeptUpdates = List (List Label × ℕ)
 
 -- what an agent knows of a node as the city starts: where it owns the node, the number of the last update that was kept, 0 where none was
 abbrev pub seat_begun : KeptUpdates → World → AgentId → List Label → Seat
@@ -33,11 +30,12 @@ pub record IsAgentStart (rows : KeptUpdates) (w : World) (a : AgentId) (t : Tabl
   pub gathers : (number : ℕ) → t.gather number ≡ None
   pub asked : (ask : ℕ) → t.asked ask ≡ false
 
--- A city as it starts: a book without answers, a registry of the city's nodes, and nothing that was posted or asked.
+-- A city as it starts: a book without answers, whose updates are those rows, a registry of the city's nodes, and nothing that was posted or asked.
 pub record IsStart (rows : KeptUpdates) (w : World) : Type 0 where
   pub present : IsPresent w.history w.turn.now
   pub labels : AreWithinLabels w.history.start
   pub lasting : All (λ entry. is_lasting entry ≡ true) w.history.entries
+  pub entered : rows ≡ updates_entered w.history.entries
   pub registered : (name : List Label) → is_some (title_at w.registry name) ≡ is_some (node_at w.history.start name)
   pub agents_are : (a : AgentId) → IsAgentStart rows w a (w.agent a)
   pub post : (k : ℕ) → w.post k ≡ None

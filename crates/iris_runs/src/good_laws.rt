@@ -10,7 +10,7 @@ ghost use Rattle.iris_fragment.specs.declared.status.Status.TheVariants.{Owned};
 ghost use Rattle.iris_need.specs.Needs.{missing_of};
 ghost use Rattle.iris_tree.specs.declared.item.Item.{Item};
 ghost use Rattle.iris_need.specs.declared.need.Need.{Need};
-ghost use Rattle.iris_book.specs.Book.{latest, value_at, with_entry};
+ghost use Rattle.iris_book.specs.Book.{latest, value_at, last_number_at, with_entry};
 ghost use Rattle.iris_book.specs.declared.entry.Entry.TheVariants as entries;
 ghost use Rattle.iris_gather.specs.declared.parent.Parent.TheVariants as parents;
 ghost use Rattle.iris_gather.specs.declared.verdict.Verdict.TheVariants.{Done};
@@ -33,17 +33,18 @@ ghost use Rattle.iris_protocol.specs.World as model;
 ghost use Rattle.iris_runs.specs.Acting.{FitsAt};
 ghost use Rattle.iris_runs.specs.Answers.{AnswersRightly};
 ghost use Rattle.iris_runs.specs.Alike.{MayBeHandled, IsWaitedFor, WaitsOnce};
+ghost use Rattle.iris_runs.specs.Entered.{KeptUpdates};
 ghost use Rattle.iris_runs.specs.Good.{Past, IsGood};
 ghost use Rattle.iris_runs.specs.Happenings.{query_posted, update_posted, counted, delivered, decided, lent_there, given, evicted_at, advanced, forgotten};
 ghost use Rattle.iris_runs.specs.Rest.{IsStill, IsAtRest};
-ghost use Rattle.iris_runs.specs.Starts.{KeptUpdates, IsStart};
+ghost use Rattle.iris_runs.specs.Starts.{IsStart};
 ghost use Rattle.iris_runs.specs.Letters.{rank_of, need_of, letter_of, agent_of};
 ghost use Rattle.iris_runs.specs.Worlds.{Sent, World, owner_of};
 
 /// In a good city each agent may do what its calls ask for: numbers are free, each request of a post or of an
 /// open gather was made, one of an open gather has no outcome, an ask is pending at one gather of its agent,
-/// the book's newest values are those of the owners, a handover fits, and what an evaluation lacks is in the
-/// registry, lies below its start, and is missing once. This call does nothing.
+/// the book's newest values and last numbers are those of the owners, a handover fits, and what an evaluation
+/// lacks is in the registry, lies below its start, and is missing once. This call does nothing.
 pub fn agents_may_act()
     ensures free { (w : World) (past : Past) → IsGood w past → (a : List ℕ) (number : ℕ) → w.turn.next_gather ≤ number → (w.agent a).gather number ≡ None }
     ensures free_asks { (w : World) (past : Past) → IsGood w past → (a : List ℕ) (ask number : ℕ) → w.turn.next_ask ≤ ask → awaits ask ((w.agent a).gather number) ≡ false }
@@ -60,6 +61,7 @@ pub fn agents_may_act()
     ensures book { (w : World) (past : Past) → IsGood w past → (a : List ℕ) (name : List Label) (version : ℕ)
         → version_at (w.agent a).cache.contents name ≡ Some version
         → (latest w.history name ≡ Some version) × (value_at w.history name version ≡ value_owned (w.agent a).cache.contents name) }
+    ensures numbered { (w : World) (past : Past) → IsGood w past → (a : List ℕ) (name : List Label) (number : ℕ) → ((w.agent a).seat name).last ≡ Some number → number ≡ last_number_at w.history name }
     ensures owned { (w : World) (past : Past) → IsGood w past → (a : List ℕ) (name : List Label)
         → IsSome (node_at w.history.start name)
         → IsSome ((w.agent a).seat name).last
@@ -71,8 +73,9 @@ pub fn agents_may_act()
         → Fits (rank_of one.gather.start) (map need_of (missing_of one.gather.query one.gather.start (laid (w.agent a).cache.contents one.gather.floor w.turn.now one.gather.view))) }
 {}
 
-/// A city as it starts is good, with rows that were kept before or without: its owners have the last numbers
-/// that the rows tell. No answer in its book is wrong, since there is none. This call does nothing.
+/// A city as it starts is good, with rows that were kept before or without: they are the updates of its book,
+/// and its owners have the last numbers that they tell. No answer in its book is wrong, since there is none.
+/// This call does nothing.
 pub fn cities_begin_good()
     ensures good { (rows : KeptUpdates) (w : World) → IsStart rows w → (past : Past) × IsGood w past }
     ensures answers { (rows : KeptUpdates) (w : World) → IsStart rows w → AnswersRightly w }

@@ -3,11 +3,11 @@
 //!
 //! What one agent does with an event is what the protocol of `iris_protocol` says of it, where messages,
 //! agents and gathers are seen as it sees them; so is what happens in a city. A city is good where some
-//! history of the protocol leads to it, what its agents hold, gather and send was so of the nodes, and no
-//! number is used twice (`specs/Good.antt`). It begins so and stays so, whatever happens; so its agents may do
-//! what their calls ask for, and each answer is allowed by what was entered before it. Where nothing is under
-//! way it is at rest: each request has its outcome. Nothing is ever sent to an agent that is not of the city
-//! (`specs/Among.antt`).
+//! history of the protocol leads to it, its book has the updates that were accepted, what its agents hold,
+//! gather and send was so of the nodes, and no number is used twice (`specs/Good.antt`). It begins so and
+//! stays so, whatever happens; so its agents may do what their calls ask for, and each answer is allowed by
+//! what was entered before it. Where nothing is under way it is at rest: each request has its outcome. Nothing
+//! is ever sent to an agent that is not of the city (`specs/Among.antt`).
 //!
 //! There is no code here: each law is a call that does nothing. The edits in `must-fail/` are of definitions.
 #![tactic(auto)]

@@ -1,5 +1,8 @@
+use Rattle.std.proofs.Common.{◌∙◌}
 use Rattle.iris_runs.proofs.Acting.{number_is_free, ask_is_free, each_waits_once, unmet_unserved, handover_fits, may_be_handled, newest_is_owned, owner_owns, may_start, missing_routed, missing_lower}
+use Rattle.iris_runs.proofs.BookTies.{last_entered}
 use Rattle.iris_runs.proofs.KnownCities.{posted_below, client_open, waited_for}
+use Rattle.iris_runs.proofs.KnownSeats.{owner_number}
 use Rattle.iris_runs.proofs.good_laws.agents_may_act.Goals as goal
 
 pub returns-clause-free : goal.returns-clause-free
@@ -34,6 +37,9 @@ returns-clause-handled c = may_be_handled
 
 pub returns-clause-book : goal.returns-clause-book
 returns-clause-book c = newest_is_owned
+
+pub returns-clause-numbered : goal.returns-clause-numbered
+returns-clause-numbered c w past good a name number is = owner_number w past.accepted good.known a name number is ∙ last_entered w.history past.accepted name good.entered
 
 pub returns-clause-owned : goal.returns-clause-owned
 returns-clause-owned c = owner_owns
