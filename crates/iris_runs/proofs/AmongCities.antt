@@ -35,7 +35,8 @@ use Rattle.iris_runs.specs.Alike.{HaveOwnIds}
 use Rattle.iris_runs.specs.Among.{NamesThese, ServesThese, IsSentAmong, IsSeatAmong, IsAgentAmong, AreOwnedAmong, AreAmong}
 use Rattle.iris_runs.specs.Good.{Past, IsGood}
 use Rattle.iris_runs.specs.Happenings.{query_posted, update_posted, is_over, delivered, decided, decision_at, lent_there, move_of, given, evicted_at, advanced, forgotten}
-use Rattle.iris_runs.specs.Starts.{KeptUpdates, IsStart}
+use Rattle.iris_runs.specs.Entered.{KeptUpdates}
+use Rattle.iris_runs.specs.Starts.{IsStart}
 use Rattle.iris_runs.specs.Worlds.{Sent, World, owner_of, epoch_of, posting, marked, closes, with_agent, stepped, after}
 use Rattle.iris_runs.proofs.Acting.{missing_routed}
 use Rattle.iris_runs.proofs.AmongAgents.{cache_among, gather_among, met_among, IsStepAmong, LeavesAmong, arrived_among, judged_among, gives_among}

@@ -11,9 +11,10 @@ ghost use Rattle.iris_agent.specs.Decisions.{IsBasis};
 ghost use Rattle.iris_protocol.specs.Table.{AgentId};
 ghost use Rattle.iris_runs.specs.Alike.{HaveOwnIds};
 ghost use Rattle.iris_runs.specs.Among.{AreOwnedAmong, AreAmong};
+ghost use Rattle.iris_runs.specs.Entered.{KeptUpdates};
 ghost use Rattle.iris_runs.specs.Good.{Past, IsGood};
 ghost use Rattle.iris_runs.specs.Happenings.{query_posted, update_posted, delivered, decided, lent_there, given, evicted_at, advanced, forgotten};
-ghost use Rattle.iris_runs.specs.Starts.{KeptUpdates, IsStart};
+ghost use Rattle.iris_runs.specs.Starts.{IsStart};
 ghost use Rattle.iris_runs.specs.Worlds.{World};
 
 /// `here` tells which agents there are. Where these own all nodes as a city starts, and from then on only
