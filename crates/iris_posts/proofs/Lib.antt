@@ -1,0 +1,6 @@
+pub mod Numbers
+pub mod Marks
+pub mod Forgotten
+pub mod Waiting
+pub mod Weighed
+pub mod Kept
