@@ -26,6 +26,7 @@ abbrev mutual
   pub pieces_at : (List Label → Option Full) → List Label → Node → List Piece
   pieces_at full path (node label local below) = in_front (record { name = path ++ label ∷ []; ids = labels_of (list_of below); full = full (path ++ label ∷ []) }) (pieces_among full (path ++ label ∷ []) below)
 
+  -- the same of siblings
   pub pieces_among : (List Label → Option Full) → List Label → Nodes → List Piece
   pieces_among full path no_nodes = []
   pieces_among full path (nodes n ns) = pieces_at full path n ++ pieces_among full path ns

@@ -2,11 +2,13 @@
 ghost use Rattle.std.specs.Prelude.{◌≡◌, ◌<◌, ◌≤◌, is_some, length, List, IfOk};
 ghost use Rattle.iris_base.specs.declared.limits.TheConstants.{MAX_CAPACITY};
 ghost use Rattle.iris_base.specs.declared.name.Label.{Label};
-ghost use Rattle.iris_tree.specs.Universe.{node_at};
+ghost use Rattle.iris_tree.specs.Universe.{label_of, node_at};
 ghost use Rattle.iris_book.specs.Book.{today, IsSound};
 ghost use Rattle.iris_route.specs.Titles.{title_at};
+ghost use Rattle.iris_agent.specs.Starts.{started};
 ghost use Rattle.iris_agent.specs.Tables.{tables_of};
 ghost use Rattle.iris_start.specs.Begun.{IsBegun};
+ghost use Rattle.iris_start.specs.Pieces.{start_pieces};
 
 use crate::pieces::put_pieces;
 use iris_agent::Agent;
@@ -53,6 +55,9 @@ impl Start<'_> {
         requires most { capacity ≤ MAX_CAPACITY }
         requires document { self.now.document.now ≡ today self.now.book.now.history }
         requires registered { (name : List Label) → is_some (title_at self.now.registry.now name) ≡ is_some (node_at self.now.book.now.history.start name) }
+        ensures tables { IfOk result (λ agent. tables_of agent ≡ started id kinds (label_of self.now.document.now) capacity (start_pieces self.now.registry.now self.now.book.now.history id self.now.document.now) self.now.rows.now) }
+
+        // What follows from that.
         ensures begun { IfOk result (λ agent. IsBegun self.now.registry.now self.now.book.now.history self.now.rows.now id (tables_of agent)) }
         ensures kinds { IfOk result (λ agent. agent.kinds ≡ kinds) }
         ensures capacity { IfOk result (λ agent. agent.cache.capacity ≡ capacity) }

@@ -27,6 +27,15 @@ returns-clause-begun c =
     (is ∙ ap (λ (top : Label). started c.args.id c.args.kinds top c.args.capacity c.deref.result.now s.rows.now) c.label-top.ensures))
     c.new.ensures
 
+pub returns-clause-tables : goal.returns-clause-tables
+returns-clause-tables c =
+    let s = c.args.self.now in
+    let given : IsGiven s.registry.now s.book.now.history c.args.id s.document.now c.deref.result.now =
+    given_is s.registry.now s.book.now.history c.args.id s.document.now c.deref.result.now c.put_pieces.new.pieces.items c.new-pieces.result.items c.document-above.result
+    c.deref.ensures.value c.in_ok-put_pieces.ensures.pieces c.new-pieces.ensures.items c.document-above.ensures
+    c.requires.document c.in_ok-put_pieces.ensures.ordered c.tell_types.ensures.sound c.requires.registered c.tell_types.ensures.named in
+    IfOk-weaker c.new.result _ _ (λ agent is. is ∙ (λ i. started c.args.id c.args.kinds (c.label-top.ensures i) c.args.capacity (given.pieces_are i) s.rows.now)) c.new.ensures
+
 pub returns-clause-kinds : goal.returns-clause-kinds
 unfolding tables_of
 returns-clause-kinds c = IfOk-weaker c.new.result _ _ (λ agent is. ap (λ (t : Tables). t.kinds) is) c.new.ensures
