@@ -21,7 +21,8 @@ use Rattle.iris_copies.specs.Copies.{IsNewest, HoldsCopies}
 use Rattle.iris_copies.proofs.Fragments.{nothing_held}
 use Rattle.iris_copies.proofs.Locals.{label_kept, ids_then}
 use Rattle.iris_protocol.specs.Table.{AgentId, agents}
-use Rattle.iris_runs.specs.Starts.{KeptUpdates, IsAgentStart}
+use Rattle.iris_runs.specs.Entered.{KeptUpdates}
+use Rattle.iris_runs.specs.Starts.{IsAgentStart}
 use Rattle.iris_runs.specs.Worlds.{World, owner_of}
 use Rattle.iris_start.specs.Begun.{TellLast, IsBegun}
 use Rattle.iris_start.specs.Pieces.{newest_full, own_full, pieces_at, start_pieces}

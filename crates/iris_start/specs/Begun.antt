@@ -8,7 +8,8 @@ use Rattle.iris_agent.specs.Starts.{last_in}
 use Rattle.iris_agent.specs.Tables.{Tables}
 use Rattle.iris_protocol.specs.Table.{AgentId}
 use Rattle.iris_protocol.specs.World.{entries, last_number}
-use Rattle.iris_runs.specs.Starts.{KeptUpdates, IsAgentStart}
+use Rattle.iris_runs.specs.Entered.{KeptUpdates}
+use Rattle.iris_runs.specs.Starts.{IsAgentStart}
 use Rattle.iris_runs.specs.Worlds.{World}
 
 -- the rows tell of each node the number of its last update
