@@ -1,0 +1,4 @@
+pub mod Changes
+pub mod ClientPosts
+pub mod Following
+pub mod SteadyCities

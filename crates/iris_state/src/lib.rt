@@ -1,0 +1,8 @@
+//! A city as it runs: its agents, the posts between them, the requests of its clients, the registry and the
+//! book, as one value, and what happens in it.
+#![tactic(auto)]
+
+mod posting;
+mod state;
+
+pub use state::State;
