@@ -35,7 +35,7 @@ impl Agent {
         requires book { IsBookOf self.old book.old }
         requires spare { 1 ≤ book.old.spare }
         requires times { All (λ u. u.1.at ≤ turn.old.now) (updates_in book.old.history.entries) }
-        ensures arrived { IfOk result (λ made. HasArrived self.old self.new turn.old turn.new message.now made.items book.old book.new (seen (P.rows keeper.old) (P.gives keeper.old) (P.faults keeper.old)) (seen (P.rows keeper.new) (P.gives keeper.new) (P.faults keeper.new)) (R.has_room room.new)) }
+        ensures arrived { IfOk result (λ made. HasArrived self.old self.new turn.old turn.new message.now made.items book.old book.new (seen (P.rows keeper.old) (P.gives keeper.old) (P.faults keeper.old)) (seen (P.rows keeper.new) (P.gives keeper.new) (P.faults keeper.new)) (R.has_room room.old room.new)) }
         ensures err { OnErr result (IsBackBut self.old self.new (offered message.now)) }
         ensures turn { OnErr result (turn.new ≡ turn.old) }
         ensures unwritten { OnErr result (book.new ≡ book.old) }

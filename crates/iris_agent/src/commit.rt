@@ -109,7 +109,7 @@ impl Agent {
         requires routed { ForSome (gather_at self.old.gathers done.now.job.gather) (λ one. AreRouted registry.now (missing_of one.gather.query one.gather.start (laid_view self.old turn.old.now one.gather))) }
         ensures local { OnOk result (MayCommit self.old turn.old.now done.now) }
         ensures decided { IfOk result (λ made. HasDecided registry.now self.old self.new turn.old turn.new done.now.job.gather made.items) }
-        ensures room { IfOk result (λ made. R.has_room room.new made.items) }
+        ensures room { IfOk result (λ made. R.has_room room.old room.new made.items) }
         ensures err { IfErr result (Refuses self.old self.new turn.old.now done.now) }
         ensures turn { OnErr result (turn.new ≡ turn.old) }
     {

@@ -198,7 +198,7 @@ impl Agent {
         room: &mut R,
     ) -> Mem<Vec<Step>>
         ensures steps { IfOk result (λ made. made.items ≡ step ∷ []) }
-        ensures room { OnOk result (R.has_room room.new (step ∷ [])) }
+        ensures room { OnOk result (R.has_room room.old room.new (step ∷ [])) }
         ensures tables { OnOk result (tables_of self.new ≡ with_gather (with_cache (tables_of self.old) (all_touched self.old.cache support.now)) number None) }
         ensures err { OnErr result (self.new ≡ self.old) }
     {
@@ -221,7 +221,7 @@ impl Agent {
         requires number { gather.id ≡ number }
         requires idle { IsSomeAnd (gather_at self.old.gathers number) (λ one. (one.gather.parent ≡ gather.parent) × (one.gather.pending ≡ [])) }
         requires fresh { (ask : ℕ) → IsSome (need_at gather.pending ask) → NoGather (awaits ask) self.old.gathers }
-        ensures room { OnOk result (R.has_room room.new steps.now) }
+        ensures room { OnOk result (R.has_room room.old room.new steps.now) }
         ensures tables { OnOk result (tables_of self.new ≡ with_gather (with_cache (tables_of self.old) (all_touched self.old.cache support.now)) number (Some (unlent gather))) }
         ensures err { OnErr result (self.new ≡ self.old) }
     {
@@ -244,7 +244,7 @@ impl Agent {
         requires fresh { AreFreeAsks self.old turn.old.next_ask }
         requires routed { AreRouted registry.now (asks_of basis.verdict) }
         ensures judged { IfOk result (λ made. (one : OpenGather) → gather_at self.old.gathers number ≡ Some one → Does self.new turn.new made.items (decides registry.now self.old turn.old number one.gather basis)) }
-        ensures room { IfOk result (λ made. R.has_room room.new made.items) }
+        ensures room { IfOk result (λ made. R.has_room room.old room.new made.items) }
         ensures err { OnErr result (self.new ≡ self.old) }
         ensures turn { OnErr result (turn.new ≡ turn.old) }
     {
@@ -296,7 +296,7 @@ impl Agent {
         requires fresh { AreFreeAsks self.old turn.old.next_ask }
         requires routed { ForSome (gather_at self.old.gathers gather) (λ one. AreRouted registry.now (missing_of one.gather.query one.gather.start (laid_view self.old turn.old.now one.gather))) }
         ensures decided { IfOk result (λ made. HasDecided registry.now self.old self.new turn.old turn.new gather made.items) }
-        ensures room { IfOk result (λ made. R.has_room room.new made.items) }
+        ensures room { IfOk result (λ made. R.has_room room.old room.new made.items) }
         ensures err { OnErr result (self.new ≡ self.old) }
         ensures turn { OnErr result (turn.new ≡ turn.old) }
     {

@@ -116,7 +116,7 @@ impl Agent {
         ensures gave { IfOk result (λ step. Does self.new turn (step ∷ []) (gives (tables_of self.old) turn moved.now)) }
         ensures entered { OnOk result (Entered book.old book.new (gives (tables_of self.old) turn moved.now).entries) }
         ensures kept { OnOk result (KeptEntries (seen (P.rows keeper.old) (P.gives keeper.old) (P.faults keeper.old)) (seen (P.rows keeper.new) (P.gives keeper.new) (P.faults keeper.new)) (gives (tables_of self.old) turn moved.now).entries) }
-        ensures room { IfOk result (λ step. R.has_room room.new (step ∷ [])) }
+        ensures room { IfOk result (λ step. R.has_room room.old room.new (step ∷ [])) }
         ensures cause { IfErr result (HasFailed (P.faults keeper.old) (P.faults keeper.new)) }
         ensures err { OnErr result (self.new ≡ self.old) }
         ensures err_book { OnErr result (book.new ≡ book.old) }

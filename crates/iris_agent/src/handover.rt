@@ -46,7 +46,7 @@ impl Agent {
         requires free { AreFree self.old turn.old.next_gather }
         requires fits { FitsHandover self.old handover.now }
         ensures arrived { IfOk result (λ made. Does self.new turn.new made.items (handover_arrives (tables_of self.old) turn.old handover.now)) }
-        ensures room { IfOk result (λ made. R.has_room room.new made.items) }
+        ensures room { IfOk result (λ made. R.has_room room.old room.new made.items) }
         ensures err { OnErr result (IsBackBut self.old self.new (map ids_alone handover.now.pieces)) }
         ensures turn { OnErr result (turn.new ≡ turn.old) }
     {
@@ -74,7 +74,7 @@ impl Agent {
         requires fits { FitsHandover self.old handover.now }
         requires later { nat_le handover.now.epoch (seat_at self.old.titles handover.now.name).taken ≡ false }
         ensures arrived { IfOk result (λ made. Does self.new turn.new made.items (handover_arrives (tables_of self.old) turn.old handover.now)) }
-        ensures room { IfOk result (λ made. R.has_room room.new made.items) }
+        ensures room { IfOk result (λ made. R.has_room room.old room.new made.items) }
         ensures err { OnErr result (IsBackBut self.old self.new (map ids_alone handover.now.pieces)) }
         ensures turn { OnErr result (turn.new ≡ turn.old) }
     {

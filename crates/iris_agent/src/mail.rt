@@ -84,7 +84,7 @@ fn send_on<R: Room>(
     room: &mut R,
 ) -> Mem<Vec<Step>>
     ensures steps { IfOk result (λ made. made.items ≡ steps.Post to (with_epoch message.now later) ∷ []) }
-    ensures room { IfOk result (λ made. R.has_room room.new made.items) }
+    ensures room { IfOk result (λ made. R.has_room room.old room.new made.items) }
 {
     let message = with_epoch(message, later)?;
     let steps = one_step(alloc, Step::Post { to, message })?;
@@ -115,7 +115,7 @@ impl Agent {
         requires wanting { IsSome (key_of message.now) }
         ensures tables { OnOk result (tables_of self.new ≡ parked (tables_of self.old) message.now) }
         ensures steps { IfOk result (λ made. made.items ≡ []) }
-        ensures room { OnOk result (R.has_room room.new []) }
+        ensures room { OnOk result (R.has_room room.old room.new []) }
         ensures err { OnErr result (tables_of self.new ≡ tables_of self.old) }
     {
         let copy = message.copy()?;
@@ -169,7 +169,7 @@ impl Agent {
         requires book { IsBookOf self.old book.old }
         requires spare { 1 ≤ book.old.spare }
         requires times { All (λ u. u.1.at ≤ turn.old.now) (updates_in book.old.history.entries) }
-        ensures served { IfOk result (λ made. Happened (λ kept. served kept (tables_of self.old) turn.old message.now) self.new turn.new made.items book.old book.new (seen (P.rows keeper.old) (P.gives keeper.old) (P.faults keeper.old)) (seen (P.rows keeper.new) (P.gives keeper.new) (P.faults keeper.new)) (R.has_room room.new)) }
+        ensures served { IfOk result (λ made. Happened (λ kept. served kept (tables_of self.old) turn.old message.now) self.new turn.new made.items book.old book.new (seen (P.rows keeper.old) (P.gives keeper.old) (P.faults keeper.old)) (seen (P.rows keeper.new) (P.gives keeper.new) (P.faults keeper.new)) (R.has_room room.old room.new)) }
         ensures err { OnErr result (tables_of self.new ≡ tables_of self.old) }
         ensures turn { OnErr result (turn.new ≡ turn.old) }
         ensures unwritten { OnErr result (book.new ≡ book.old) }
@@ -236,7 +236,7 @@ impl Agent {
         requires book { IsBookOf self.old book.old }
         requires spare { 1 ≤ book.old.spare }
         requires times { All (λ u. u.1.at ≤ turn.old.now) (updates_in book.old.history.entries) }
-        ensures arrived { IfOk result (λ made. Happened (λ kept. mail_directed kept (tables_of self.old) turn.old message.now (direct (seat_at self.old.titles name.now) epoch)) self.new turn.new made.items book.old book.new (seen (P.rows keeper.old) (P.gives keeper.old) (P.faults keeper.old)) (seen (P.rows keeper.new) (P.gives keeper.new) (P.faults keeper.new)) (R.has_room room.new)) }
+        ensures arrived { IfOk result (λ made. Happened (λ kept. mail_directed kept (tables_of self.old) turn.old message.now (direct (seat_at self.old.titles name.now) epoch)) self.new turn.new made.items book.old book.new (seen (P.rows keeper.old) (P.gives keeper.old) (P.faults keeper.old)) (seen (P.rows keeper.new) (P.gives keeper.new) (P.faults keeper.new)) (R.has_room room.old room.new)) }
         ensures err { OnErr result (tables_of self.new ≡ tables_of self.old) }
         ensures turn { OnErr result (turn.new ≡ turn.old) }
         ensures unwritten { OnErr result (book.new ≡ book.old) }

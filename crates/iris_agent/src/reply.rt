@@ -49,7 +49,7 @@ impl Agent {
         room: &mut R,
     ) -> Mem<Vec<Step>>
         ensures arrived { IfOk result (λ made. HasReplied self.old self.new turn ask pieces.now made.items) }
-        ensures room { IfOk result (λ made. R.has_room room.new made.items) }
+        ensures room { IfOk result (λ made. R.has_room room.old room.new made.items) }
         ensures err { OnErr result (IsBackBut self.old self.new pieces.now) }
     {
         let steps = nothing(self.alloc, room)?;

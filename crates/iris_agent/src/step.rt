@@ -61,7 +61,7 @@ pub(crate) fn one_step(alloc: Global, step: Step) -> Mem<Vec<Step>>
 // No steps, and room for none.
 pub(crate) fn nothing<R: Room>(alloc: Global, room: &mut R) -> Mem<Vec<Step>>
     ensures steps { IfOk result (λ steps. steps.items ≡ []) }
-    ensures room { OnOk result (R.has_room room.new []) }
+    ensures room { OnOk result (R.has_room room.old room.new []) }
 {
     let steps = Vec::new(alloc);
     room.make(&steps)?;

@@ -81,7 +81,7 @@ impl Agent {
         requires book { IsBookOf self.old book.old }
         requires spare { 1 ≤ book.old.spare }
         requires times { All (λ u. u.1.at ≤ turn.now) (updates_in book.old.history.entries) }
-        ensures served { IfOk result (λ made. Happened (λ kept. update_served kept (tables_of self.old) turn update.now.request update.now.name.now update.now.no update.now.changes.now) self.new turn made.items book.old book.new (seen (P.rows keeper.old) (P.gives keeper.old) (P.faults keeper.old)) (seen (P.rows keeper.new) (P.gives keeper.new) (P.faults keeper.new)) (R.has_room room.new)) }
+        ensures served { IfOk result (λ made. Happened (λ kept. update_served kept (tables_of self.old) turn update.now.request update.now.name.now update.now.no update.now.changes.now) self.new turn made.items book.old book.new (seen (P.rows keeper.old) (P.gives keeper.old) (P.faults keeper.old)) (seen (P.rows keeper.new) (P.gives keeper.new) (P.faults keeper.new)) (R.has_room room.old room.new)) }
         ensures err { OnErr result (self.new ≡ self.old) }
         ensures unwritten { OnErr result (book.new ≡ book.old) }
         ensures unkept { OnErr result (KeptNothing (seen (P.rows keeper.old) (P.gives keeper.old) (P.faults keeper.old)) (seen (P.rows keeper.new) (P.gives keeper.new) (P.faults keeper.new))) }
@@ -120,7 +120,7 @@ impl Agent {
     // Refuses an update.
     fn refuse<R: Room>(&self, request: u64, refusal: Refusal, room: &mut R) -> Mem<Vec<Step>>
         ensures steps { IfOk result (λ made. made.items ≡ steps.Refused request refusal ∷ []) }
-        ensures room { IfOk result (λ made. R.has_room room.new made.items) }
+        ensures room { IfOk result (λ made. R.has_room room.old room.new made.items) }
     {
         let steps = one_step(self.alloc, Step::Refused { request, refusal })?;
         room.make(&steps)?;
@@ -155,7 +155,7 @@ impl Agent {
         requires title { IsSome (seat_at self.old.titles update.now.name.now).last }
         requires spare { 1 ≤ book.old.spare }
         requires follows { MayBeEntered book.old.history (entries.Updated update.now.name.now update.now.no update.now.changes.now local turn.now) }
-        ensures kept { IfOk result (λ made. Happened (λ kept. update_kept kept (tables_of self.old) turn update.now.request update.now.name.now update.now.no update.now.changes.now local) self.new turn made.items book.old book.new (seen (P.rows keeper.old) (P.gives keeper.old) (P.faults keeper.old)) (seen (P.rows keeper.new) (P.gives keeper.new) (P.faults keeper.new)) (R.has_room room.new)) }
+        ensures kept { IfOk result (λ made. Happened (λ kept. update_kept kept (tables_of self.old) turn update.now.request update.now.name.now update.now.no update.now.changes.now local) self.new turn made.items book.old book.new (seen (P.rows keeper.old) (P.gives keeper.old) (P.faults keeper.old)) (seen (P.rows keeper.new) (P.gives keeper.new) (P.faults keeper.new)) (R.has_room room.old room.new)) }
         ensures err { OnErr result (self.new ≡ self.old) }
         ensures unwritten { OnErr result (book.new ≡ book.old) }
         ensures unkept { OnErr result (KeptNothing (seen (P.rows keeper.old) (P.gives keeper.old) (P.faults keeper.old)) (seen (P.rows keeper.new) (P.gives keeper.new) (P.faults keeper.new))) }

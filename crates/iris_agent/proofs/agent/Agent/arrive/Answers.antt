@@ -14,7 +14,7 @@ returns-in-Query-clause-arrived g c =
     (λ made h. query_arrived c.args.self.now c.arrive_mail.new.self c.args.turn.now c.arrive_mail.new.turn c.args.message.now made.items c.args.book.now c.arrive_mail.new.book
     (seen (g.P.Keeper.rows c.args.keeper.now) (g.P.Keeper.gives c.args.keeper.now) (g.P.Keeper.faults c.args.keeper.now))
     (seen (g.P.Keeper.rows c.arrive_mail.new.keeper) (g.P.Keeper.gives c.arrive_mail.new.keeper) (g.P.Keeper.faults c.arrive_mail.new.keeper))
-    (g.R.Room.has_room c.arrive_mail.new.room) c.in-Query.request c.in-Query.query c.in-Query.name c.in-Query.epoch c.in-Query.floor c.in-Query.is h)
+    (g.R.Room.has_room c.args.room.now c.arrive_mail.new.room) c.in-Query.request c.in-Query.query c.in-Query.name c.in-Query.epoch c.in-Query.floor c.in-Query.is h)
     c.arrive_mail.ensures.arrived
 
 pub returns-in-Query-clause-err : goal.returns-in-Query-clause-err
@@ -26,7 +26,7 @@ returns-in-Update-clause-arrived g c =
     (λ made h. update_arrived c.args.self.now c.arrive_mail-in-Update.new.self c.args.turn.now c.arrive_mail-in-Update.new.turn c.args.message.now made.items c.args.book.now c.arrive_mail-in-Update.new.book
     (seen (g.P.Keeper.rows c.args.keeper.now) (g.P.Keeper.gives c.args.keeper.now) (g.P.Keeper.faults c.args.keeper.now))
     (seen (g.P.Keeper.rows c.arrive_mail-in-Update.new.keeper) (g.P.Keeper.gives c.arrive_mail-in-Update.new.keeper) (g.P.Keeper.faults c.arrive_mail-in-Update.new.keeper))
-    (g.R.Room.has_room c.arrive_mail-in-Update.new.room) c.in-Update.request c.in-Update.name c.in-Update.epoch c.in-Update.no c.in-Update.changes c.in-Update.is h)
+    (g.R.Room.has_room c.args.room.now c.arrive_mail-in-Update.new.room) c.in-Update.request c.in-Update.name c.in-Update.epoch c.in-Update.no c.in-Update.changes c.in-Update.is h)
     c.arrive_mail-in-Update.ensures.arrived
 
 pub returns-in-Update-clause-err : goal.returns-in-Update-clause-err
@@ -37,7 +37,7 @@ returns-then-is_asked-clause-arrived g c =
     if_ok_both c.nothing.result _ _ _
     (λ made none room. met_arrived c.args.self.now c.args.turn.now c.args.message.now made.items c.args.book.now
     (seen (g.P.Keeper.rows c.args.keeper.now) (g.P.Keeper.gives c.args.keeper.now) (g.P.Keeper.faults c.args.keeper.now))
-    (g.R.Room.has_room c.nothing.new.room) c.in-Ask.ask c.in-Ask.from c.in-Ask.query c.in-Ask.start c.in-Ask.epoch c.in-Ask.floor c.in-Ask.is (sym c.is_asked.ensures ∙ c.if-is_asked.true) none room)
+    (g.R.Room.has_room c.args.room.now c.nothing.new.room) c.in-Ask.ask c.in-Ask.from c.in-Ask.query c.in-Ask.start c.in-Ask.epoch c.in-Ask.floor c.in-Ask.is (sym c.is_asked.ensures ∙ c.if-is_asked.true) none room)
     c.nothing.ensures.steps c.nothing.ensures.room
 
 pub returns-then-is_asked-clause-err : goal.returns-then-is_asked-clause-err
@@ -53,7 +53,7 @@ returns-else-is_asked-clause-arrived g c =
     (λ made h. ask_arrived c.args.self.now c.arrive_mail-in-Ask.new.self c.args.turn.now c.arrive_mail-in-Ask.new.turn c.args.message.now made.items c.args.book.now c.arrive_mail-in-Ask.new.book
     (seen (g.P.Keeper.rows c.args.keeper.now) (g.P.Keeper.gives c.args.keeper.now) (g.P.Keeper.faults c.args.keeper.now))
     (seen (g.P.Keeper.rows c.arrive_mail-in-Ask.new.keeper) (g.P.Keeper.gives c.arrive_mail-in-Ask.new.keeper) (g.P.Keeper.faults c.arrive_mail-in-Ask.new.keeper))
-    (g.R.Room.has_room c.arrive_mail-in-Ask.new.room) c.in-Ask.ask c.in-Ask.from c.in-Ask.query c.in-Ask.start c.in-Ask.epoch c.in-Ask.floor c.in-Ask.is (sym c.is_asked.ensures ∙ c.if-is_asked.false) h)
+    (g.R.Room.has_room c.args.room.now c.arrive_mail-in-Ask.new.room) c.in-Ask.ask c.in-Ask.from c.in-Ask.query c.in-Ask.start c.in-Ask.epoch c.in-Ask.floor c.in-Ask.is (sym c.is_asked.ensures ∙ c.if-is_asked.false) h)
     c.arrive_mail-in-Ask.ensures.arrived
 
 pub returns-else-is_asked-clause-err : goal.returns-else-is_asked-clause-err
@@ -64,5 +64,5 @@ returns-in-Handover-clause-arrived g c =
     if_ok_both c.arrive_handover.result _ _ _
     (λ made does room. handover_arrived c.args.self.now c.arrive_handover.new.self c.args.turn.now c.arrive_handover.new.turn c.args.message.now made.items c.args.book.now
     (seen (g.P.Keeper.rows c.args.keeper.now) (g.P.Keeper.gives c.args.keeper.now) (g.P.Keeper.faults c.args.keeper.now))
-    (g.R.Room.has_room c.arrive_handover.new.room) c.in-Handover.handover c.in-Handover.is does room)
+    (g.R.Room.has_room c.args.room.now c.arrive_handover.new.room) c.in-Handover.handover c.in-Handover.is does room)
     c.arrive_handover.ensures.arrived c.arrive_handover.ensures.room

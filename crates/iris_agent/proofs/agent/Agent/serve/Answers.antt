@@ -17,7 +17,7 @@ returns-in_ok-serve_ask-in-Ask-clause-served g c =
     (opened_gather (with_asked (tables_of c.args.self.now) c.in-Ask.ask) c.args.turn.now (ask_gather (tables_of c.args.self.now) c.args.turn.now c.in-Ask.ask c.in-Ask.from c.in-Ask.query c.in-Ask.start c.in-Ask.floor))
     c.serve_ask.new.self c.serve_ask.new.turn c.in_ok-steps-in-Ask.steps.items c.args.book.now
     (seen (g.P.Keeper.rows c.args.keeper.now) (g.P.Keeper.gives c.args.keeper.now) (g.P.Keeper.faults c.args.keeper.now))
-    (g.R.Room.has_room c.nothing-in-Ask.new.room)
+    (g.R.Room.has_room c.args.room.now c.nothing-in-Ask.new.room)
     (λ kept. ap (served kept (tables_of c.args.self.now) c.args.turn.now) c.in-Ask.is)
     refl
     (record { tables = c.in_ok-serve_ask-in-Ask.ensures.tables; turn = c.in_ok-serve_ask-in-Ask.ensures.turn; steps = c.in_ok-steps-in-Ask.ensures.steps })

@@ -54,4 +54,4 @@ returns-in-Err-clause-served g c =
     let last = ap (λ (h : Holdings). (seat_at h.titles name).last) (sym c.self.view_is) ∙ sym c.last.ensures ∙ c.in-Some.is in
     let is : Err c.in-Err.refusal ≡ made_of old.kinds c.in-Some-newest.newest.local.now c.in-Some.last u.no u.changes.now = cc (c.in_ok-local.ensures, c.in-Err.is) in
     if_ok_two c.refuse.result _ _ _ c.refuse.ensures.steps c.refuse.ensures.room
-    (λ made told room. happened _ (only_step (tables_of old) c.args.turn (steps.Refused u.request c.in-Err.refusal)) old c.args.turn made.items c.args.book.now _ _ (served_made old c.args.turn u.request name u.no u.changes.now c.in-Some-newest.newest.local.now c.in-Some.last (Err c.in-Err.refusal) value last is) refl (record { tables = refl; turn = refl; steps = told }) (subst (g.R.Room.has_room c.refuse.new.room) told room))
+    (λ made told room. happened _ (only_step (tables_of old) c.args.turn (steps.Refused u.request c.in-Err.refusal)) old c.args.turn made.items c.args.book.now _ _ (served_made old c.args.turn u.request name u.no u.changes.now c.in-Some-newest.newest.local.now c.in-Some.last (Err c.in-Err.refusal) value last is) refl (record { tables = refl; turn = refl; steps = told }) (subst (g.R.Room.has_room c.args.room.now c.refuse.new.room) told room))
