@@ -6,7 +6,10 @@
 #![tactic(auto)]
 
 mod outbox;
+mod preparing;
 mod requests;
+mod steps;
 
-pub use outbox::Outbox;
+pub use outbox::{Outbox, Ready};
+pub use preparing::Preparing;
 pub use requests::Requests;

@@ -1,5 +1,5 @@
 -- The posts of a city: which are kept, and which were delivered.
-use Rattle.std.specs.Prelude.{◌≡◌, ℕ, ◌<◌, nat_lt, nat_eq, Bool, true, false, ◌&&◌, ◌||◌, if◌then◌else◌, List, [], ◌∷◌, map, sum_by, Option, Some, None, IsSome, option_map, refl}
+use Rattle.std.specs.Prelude.{◌≡◌, ℕ, ◌+◌, ◌<◌, ◌≤◌, nat_lt, nat_eq, Bool, true, false, ◌&&◌, ◌||◌, if◌then◌else◌, List, [], ◌∷◌, map, length, sum_by, Option, Some, None, IsSome, option_map, refl}
 use Rattle.std.specs.Coded.{Coded, code_by, coded×, coded_ℕ, coded_bool, coded_list}
 use Rattle.iris_tree.specs.TextLen.{saturated}
 use Rattle.iris_posts.specs.declared.post.Post.{Post}
@@ -25,6 +25,10 @@ kept_post_code post =
 abbrev pub queue_code : Coded Post → Coded Queue
 queue_code post =
     code_by (List KeptPost × (ℕ × ℕ)) (coded× (coded_list (kept_post_code post)) (coded× coded_ℕ coded_ℕ)) (λ q. (q.kept, (q.made, q.spare))) (λ p. record { kept = p.0; made = p.1.0; spare = p.1.1 }) (λ _. refl)
+
+-- so many more posts have room once there is room for as many as that growth is for, and for no fewer than before
+abbrev pub MakesRoom : ℕ → Queue → ℕ → Type 0
+MakesRoom growth q n = (capacity : ℕ) → length q.kept + q.spare ≤ capacity → growth ≤ capacity → length q.kept + n ≤ capacity
 
 -- ---- one number
 

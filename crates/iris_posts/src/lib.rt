@@ -6,11 +6,13 @@
 //! forgotten.
 #![tactic(auto)]
 
+mod growth;
 mod post;
 mod posts;
 mod slot;
 mod weights;
 
+pub use growth::Growth;
 pub use post::Post;
 pub use posts::Posts;
 pub use weights::{ID_WEIGHT, MESSAGE_WEIGHT, PIECE_WEIGHT, STATE_WEIGHT, weigh};

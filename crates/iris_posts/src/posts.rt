@@ -1,9 +1,10 @@
 //! The posts of a city.
-ghost use Rattle.std.specs.Prelude.{◌≡◌, ℕ, suc, ◌+◌, ◌<◌, ◌≤◌, nat_eq, true, false, not, if◌then◌else◌, [], ◌∷◌, ◌++◌, length, filter, Some, None, IsSome, IfSome, OnOk, option_copied};
+ghost use Rattle.std.specs.Prelude.{◌≡◌, ℕ, suc, ◌+◌, ◌<◌, ◌≤◌, nat_eq, true, false, not, if◌then◌else◌, [], ◌∷◌, ◌++◌, length, filter, Some, None, IsSome, IfSome, IfOk, option_copied};
 ghost use Rattle.iris_tree.specs.TextLen.{saturated};
 ghost use Rattle.iris_posts.specs.Weights.{weight_of};
-ghost use Rattle.iris_posts.specs.Posts.{post_at, is_seen, bytes_of, marked, IsNext, AllSeen};
+ghost use Rattle.iris_posts.specs.Posts.{post_at, is_seen, bytes_of, marked, IsNext, AllSeen, MakesRoom};
 
+use crate::growth::Growth;
 use crate::post::Post;
 use crate::slot::{Slot, first_waiting, place_of, weight_of_all};
 use iris_migrate::Message;
@@ -54,15 +55,33 @@ impl Posts {
         }
     }
 
-    /// Makes room for so many more posts, so that they take no memory.
-    pub fn reserve(&mut self, n: usize) -> Mem<()>
-        ensures ok { OnOk result (n ≤ self.new.spare) }
-        ensures room { self.old.spare ≤ self.new.spare }
+    /// Memory for so many more posts, where there is not enough yet. It is found without a change of the posts,
+    /// and `grow` takes it.
+    pub fn growth(&self, n: usize) -> Mem<Growth>
+        ensures { IfOk result (λ growth. MakesRoom growth self.now n) }
+    {
+        let alloc = *self.slots.allocator();
+        let len = self.slots.len();
+        if n <= self.slots.capacity() - len {
+            return Ok(Growth::none(alloc));
+        }
+        Growth::to(alloc, len.saturating_add(n.max(len)))
+    }
+
+    /// Takes memory that was found before. It takes time for each kept post where it has more than was there.
+    pub fn grow(&mut self, growth: Growth)
+        ensures room { (n : ℕ) → MakesRoom growth self.old n → n ≤ self.new.spare }
         ensures kept { self.new.kept ≡ self.old.kept }
         ensures made { self.new.made ≡ self.old.made }
     {
-        self.slots.reserve(n)?;
-        Ok(())
+        let mut slots = growth.into_slots();
+        if slots.capacity() <= self.slots.capacity() {
+            return;
+        }
+        if slots.append(&mut self.slots).is_err() {
+            unreachable!();
+        }
+        self.slots = slots;
     }
 
     /// Makes a post of a message that weighs so much, and answers its number. It takes no memory.

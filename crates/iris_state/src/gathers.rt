@@ -1,0 +1,35 @@
+//! Gathers that go on.
+ghost use Rattle.std.specs.Prelude.{◌≡◌, true, IfOk, OnErr};
+ghost use Rattle.iris_gather.specs.OpenGathers.{is_due};
+ghost use Rattle.iris_state.specs.City.{IsSteady};
+ghost use Rattle.iris_state.specs.Events.{HasDecidedAt};
+ghost use Rattle.iris_state.specs.Whole.{world_of};
+
+use crate::agents::place_of;
+use crate::state::State;
+use iris_json::Out;
+use iris_tree::{AgentId, Mem};
+use std::alloc::AllocError;
+
+impl State {
+    /// The open gather of that number at that agent, which is due, decides: it ends with an answer or a reply,
+    /// or it asks for what is missing. The lines are those of what it posts, and then that of the answer. Where
+    /// there is no memory the city is as before.
+    pub fn decide(&mut self, id: AgentId, gather: u64) -> Mem<Vec<Out>>
+        requires steady { IsSteady self.old }
+        requires due { is_due (((world_of self.old).agent id).gather gather) ≡ true }
+        ensures decided { IfOk result (λ lines. HasDecidedAt (world_of self.old) id gather (world_of self.new) lines.items) }
+        ensures err { OnErr result (world_of self.new ≡ world_of self.old) }
+        ensures steady { IsSteady self.new }
+    {
+        let Some(at) = place_of(&self.agents, id) else {
+            unreachable!();
+        };
+        self.book.reserve(1)?;
+        let mut room = self.outbox.preparing();
+        let steps = self.agents[at].decide(gather, &mut self.turn, &self.registry, &mut room)?;
+        let ready = room.ready();
+        self.outbox.set(ready);
+        Ok(self.follow(steps))
+    }
+}
