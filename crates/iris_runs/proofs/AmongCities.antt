@@ -11,7 +11,7 @@ use Rattle.iris_xpath.specs.Syntax.{Syntax}
 use Rattle.iris_need.specs.declared.need.Need.{Need}
 use Rattle.iris_route.specs.Titles.{Title, Titles, title_at, with_title}
 use Rattle.iris_route.proofs.TitleMaps.{name_exact, set_here, set_elsewhere, set_keys}
-use Rattle.iris_cache.specs.Recency.{evicted_from}
+use Rattle.iris_cache.specs.Recency.{Cache, evicted_from}
 use Rattle.iris_migrate.specs.declared.message.Message.{Message}
 use Rattle.iris_migrate.specs.declared.message.Message.TheVariants.{Query, Update}
 use Rattle.iris_migrate.specs.Titles.{empty_seat, with_last}
@@ -34,7 +34,7 @@ use Rattle.iris_protocol.proofs.Tables.{at_each}
 use Rattle.iris_runs.specs.Alike.{HaveOwnIds}
 use Rattle.iris_runs.specs.Among.{NamesThese, ServesThese, IsSentAmong, IsSeatAmong, IsAgentAmong, AreOwnedAmong, AreAmong}
 use Rattle.iris_runs.specs.Good.{Past, IsGood}
-use Rattle.iris_runs.specs.Happenings.{query_posted, update_posted, is_over, delivered, decided, decision_at, lent_there, move_of, given, evicted_at, advanced, forgotten}
+use Rattle.iris_runs.specs.Happenings.{query_posted, update_posted, is_over, delivered, interrupted, decided, decision_at, lent_there, move_of, given, evicted_at, advanced, forgotten}
 use Rattle.iris_runs.specs.Entered.{KeptUpdates}
 use Rattle.iris_runs.specs.Starts.{IsStart}
 use Rattle.iris_runs.specs.Worlds.{Sent, World, owner_of, epoch_of, posting, marked, closes, with_agent, stepped, after}
@@ -138,8 +138,11 @@ lent_among here w a number lent among = agent_among here w a _ (gather_among her
     by None serves = tt
     by (Some one) serves = serves
 
+pub interrupted_among : (here : AgentId → Bool) (w : World) (a : AgentId) (cache : Cache) → AreAmong here w → AreAmong here (interrupted w a cache)
+interrupted_among here w a cache among = agent_among here w a _ (cache_among here (w.agent a) cache (among.agents a)) among
+
 pub evicted_among : (here : AgentId → Bool) (w : World) (a : AgentId) (name : List Label) → AreAmong here w → AreAmong here (evicted_at w a name)
-evicted_among here w a name among = agent_among here w a _ (cache_among here (w.agent a) (evicted_from (w.agent a).cache name) (among.agents a)) among
+evicted_among here w a name among = interrupted_among here w a (evicted_from (w.agent a).cache name) among
 
 -- ---- moves
 

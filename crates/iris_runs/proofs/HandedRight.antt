@@ -1,7 +1,7 @@
 -- What the arrival of a handover leaves is right: the node finds its place and is owned, and what was parked for it opens its gathers.
-use Rattle.std.proofs.Common.{◌≡◌, ℕ, suc, zero, ◌-◌, Bool, true, false, cond, if◌then◌else◌, nat_le, nat_eq, is_some, length, take, map, slice_get, List, [], ◌∷◌, All, Option, Some, None, IsSome, IfSome, refl, sym, ◌∙◌, ap, subst}
+use Rattle.std.proofs.Common.{◌≡◌, ℕ, suc, zero, ◌-◌, Bool, true, false, cond, if◌then◌else◌, nat_le, nat_eq, is_some, length, map, slice_get, List, [], ◌∷◌, All, Option, Some, None, IsSome, IfSome, refl, sym, ◌∙◌, ap, subst}
 use Rattle.std.specs.Cmp.Lexicographic.{pointwise}
-use Rattle.std.proofs.lemmas.List.Elements.{All-nil, All-cons, All-head, All-tail}
+use Rattle.std.proofs.lemmas.List.Elements.{All-nil, All-head, All-tail, All-take, All-map, All-weaker}
 use Rattle.iris_base.specs.declared.name.Label.{Label}
 use Rattle.iris_base.specs.NameOrder.{label_eq, names_equiv}
 use Rattle.iris_tree.specs.Universe.{node_at}
@@ -43,12 +43,9 @@ pub record IsHanded (m : Moment) (c new : Cache) (name : List Label) : Type 0 wh
   pub owns : (other : List Label) → is_some (version_at new.contents other) ≡ cond (pointwise label_eq name other) true (is_some (version_at c.contents other))
 
 -- ids alone of copies are copies
-ids_copies : (h : History) (now : ℕ) (pieces : List Piece) (n : ℕ) → AreCopies h now pieces → AreCopies h now (map ids_alone (take n pieces))
-ids_copies h now pieces zero all = All-nil (IsCopy h now)
-ids_copies h now [] (suc n) all = All-nil (IsCopy h now)
-ids_copies h now (piece ∷ pieces) (suc n) all =
-    let is = All-head (IsCopy h now) piece pieces all in
-    All-cons (IsCopy h now) (ids_alone piece) (map ids_alone (take n pieces)) record { ids = is.ids; full = tt } (ids_copies h now pieces n (All-tail (IsCopy h now) piece pieces all))
+pub ids_copies : (h : History) (now : ℕ) (pieces : List Piece) → AreCopies h now pieces → AreCopies h now (map ids_alone pieces)
+ids_copies h now pieces all =
+    All-map (IsCopy h now) ids_alone pieces (All-weaker (IsCopy h now) (λ piece. IsCopy h now (ids_alone piece)) (λ piece is. record { ids = is.ids; full = tt }) pieces all)
 
 -- what stands at a place of a list is so where all are
 all_got : (P : Piece → Type 0) (pieces : List Piece) (i : ℕ) (piece : Piece) → All P pieces → slice_get pieces i ≡ Some piece → P piece
@@ -69,11 +66,14 @@ handed_right m c handed is brings there holds orderly =
     above : Cache
     above = above_handed c handed.pieces
 
+    copies_above : AreCopies m.history m.now (map ids_alone (above_in handed.pieces))
+    copies_above = ids_copies m.history m.now (above_in handed.pieces) (All-take (IsCopy m.history m.now) (length handed.pieces - 1) handed.pieces is.copies)
+
     holds_above : HoldsCopies m.history m.now above.contents
-    holds_above = taken_all_holds m.history m.now c (map ids_alone (above_in handed.pieces)) (ids_copies m.history m.now handed.pieces (length handed.pieces - 1) is.copies) holds
+    holds_above = taken_all_holds m.history m.now c (map ids_alone (above_in handed.pieces)) copies_above holds
 
     taken : IsKept c above
-    taken = taken_all_kept m.history m.now c (map ids_alone (above_in handed.pieces)) (ids_copies m.history m.now handed.pieces (length handed.pieces - 1) is.copies) holds orderly
+    taken = taken_all_kept m.history m.now c (map ids_alone (above_in handed.pieces)) copies_above holds orderly
 
     named : is.own.name ≡ handed.name
     named = last_named handed.pieces (names_above handed.name) handed.name is.own is.names_are is.last

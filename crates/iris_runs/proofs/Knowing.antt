@@ -5,6 +5,7 @@ use Rattle.iris_base.specs.declared.name.Label.{Label}
 use Rattle.iris_tree.specs.declared.change.Change.{Change}
 use Rattle.iris_xpath.specs.Syntax.{Syntax}
 use Rattle.iris_route.specs.Titles.{title_at}
+use Rattle.iris_cache.specs.Recency.{Cache, evicted_from}
 use Rattle.iris_gather.specs.declared.basis.Basis.{Basis}
 use Rattle.iris_gather.specs.declared.entries.OpenGather.{OpenGather}
 use Rattle.iris_gather.specs.OpenGathers.{is_due, is_ready}
@@ -16,8 +17,8 @@ use Rattle.iris_protocol.proofs.ProgramEvents.{known_keeps}
 use Rattle.iris_runs.specs.Alike.{AsksForSome, MayBeHandled, HaveOwnIds, arrival_at}
 use Rattle.iris_runs.specs.Letters.{need_of}
 use Rattle.iris_runs.specs.Worlds.{World, owner_of, program_of}
-use Rattle.iris_runs.specs.Happenings.{query_posted, update_posted, delivered, decided, lent_there, given, forgotten, evicted_at, advanced}
-use Rattle.iris_runs.proofs.WorldTies.{query_is, update_is, arrival_is, decision_is, commit_is, lent_is, back_is, given_is, forgotten_is, evicted_is, advanced_is}
+use Rattle.iris_runs.specs.Happenings.{query_posted, update_posted, delivered, decided, lent_there, given, forgotten, interrupted, evicted_at, advanced}
+use Rattle.iris_runs.proofs.WorldTies.{query_is, update_is, arrival_is, decision_is, commit_is, lent_is, back_is, given_is, forgotten_is, interrupted_is, advanced_is}
 
 -- what an event of the protocol leaves is known
 event_known : (t after : Program) (serving : Bool) (event : model.Event) → Known t → ProgramAllows t event → TellsEvent t serving event → after ≡ program_happens t serving event → Known after
@@ -92,10 +93,15 @@ pub forgotten_known : (w : World) (accepted : List model.Entry) (stays : AgentId
     → Known (program_of (forgotten w stays) accepted)
 forgotten_known w accepted stays known allows = event_known _ _ false (model.Forget stays) known allows tt (forgotten_is w accepted stays)
 
+pub interrupted_known : (w : World) (accepted : List model.Entry) (a : AgentId) (cache : Cache)
+    → Known (program_of w accepted)
+    → Known (program_of (interrupted w a cache) accepted)
+interrupted_known w accepted a cache known = subst Known (sym (interrupted_is w accepted a cache)) known
+
 pub evicted_known : (w : World) (accepted : List model.Entry) (a : AgentId) (name : List Label)
     → Known (program_of w accepted)
     → Known (program_of (evicted_at w a name) accepted)
-evicted_known w accepted a name known = subst Known (sym (evicted_is w accepted a name)) known
+evicted_known w accepted a name = interrupted_known w accepted a (evicted_from (w.agent a).cache name)
 
 pub advanced_known : (w : World) (accepted : List model.Entry) (moment : ℕ)
     → Known (program_of w accepted)

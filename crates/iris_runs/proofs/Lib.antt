@@ -17,6 +17,7 @@ pub mod UpdatedRight
 pub mod ArrivedRight
 pub mod HandedPlace
 pub mod HandedRight
+pub mod InterruptedRight
 pub mod ArrivalsRight
 pub mod MovedRight
 pub mod DecidedRight

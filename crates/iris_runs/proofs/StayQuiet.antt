@@ -1,16 +1,17 @@
--- A good city stays good as time passes, as a copy is evicted, as a gather is lent or is not any more, and as what was delivered is forgotten.
+-- A good city stays good as time passes, as an arrival ends for want of memory, as a copy is evicted, as a gather is lent or is not any more, and as what was delivered is forgotten.
 use Rattle.std.proofs.Common.{◌≡◌, ℕ, ◌≤◌, Bool, true, false, if◌then◌else◌, nat_eq, List, Option, Some, None, refl, sym, ap, ◌∙◌, subst, arith}
 use Rattle.std.specs.Prelude.{IfSome, option_map}
 use Rattle.std.proofs.lemmas.Bool.{eqb-true}
 use Rattle.iris_base.specs.declared.name.Label.{Label}
 use Rattle.iris_book.specs.Book.{History}
 use Rattle.iris_book.specs.Entering.{without_answers}
-use Rattle.iris_cache.specs.Recency.{is_complete, evicted_from}
+use Rattle.iris_cache.specs.Recency.{Cache, is_complete, evicted_from, TookFirst}
 use Rattle.iris_migrate.specs.declared.key.Key.TheVariants as keys
 use Rattle.iris_migrate.specs.declared.message.Handover.{Handover as Handed}
 use Rattle.iris_migrate.specs.Titles.{is_parked}
 use Rattle.iris_gather.specs.declared.entries.OpenGather.{OpenGather}
 use Rattle.iris_gather.specs.OpenGathers.{is_due, awaits, serves_ask, with_lent}
+use Rattle.iris_agent.specs.Events.{offered}
 use Rattle.iris_agent.specs.Handled.{only_change}
 use Rattle.iris_agent.specs.Handovers.{own_in}
 use Rattle.iris_agent.specs.Tables.{Tables, with_cache, with_gather}
@@ -21,12 +22,13 @@ use Rattle.iris_protocol.specs.Table.{AgentId, agents}
 use Rattle.iris_protocol.specs.World as model
 use Rattle.iris_protocol.proofs.Programs.{set_self}
 use Rattle.iris_runs.specs.Good.{Past, moment_of, KnowsItsAsks, IsPostAt, IsGood}
-use Rattle.iris_runs.specs.Happenings.{lent_there, evicted_at, advanced, forgotten}
+use Rattle.iris_runs.specs.Happenings.{interrupted, lent_there, evicted_at, advanced, forgotten}
 use Rattle.iris_runs.specs.Letters.{agent_of}
 use Rattle.iris_runs.specs.Moments.{Wanted, IsAgentAt, BringsNewest}
 use Rattle.iris_runs.specs.Worlds.{Sent, World, with_agent, program_of}
 use Rattle.iris_runs.proofs.BookTies.{newest_first}
-use Rattle.iris_runs.proofs.Knowing.{advanced_known, evicted_known, lent_known, back_known, forgotten_known}
+use Rattle.iris_runs.proofs.InterruptedRight.{agent_interrupted}
+use Rattle.iris_runs.proofs.Knowing.{advanced_known, interrupted_known, lent_known, back_known, forgotten_known}
 use Rattle.iris_runs.proofs.KnownSeats.{awaits_pending}
 use Rattle.iris_runs.proofs.StayAsked.{asks_cached, asks_lent, asks_forgotten}
 use Rattle.iris_runs.proofs.StayGood.{IsRight, right_of, good_of, some_weaker, post_later, begun_right}
@@ -64,13 +66,25 @@ quiet_right w wanted a t id taken is asks right = begun_right w wanted wanted a 
   newest = λ k sent handed there e told free h. h;
 }) right
 
+-- an agent has another cache, with which it is right
+cached_good : (w : World) (past : Past) (a : AgentId) (cache : Cache) → IsAgentAt (moment_of w past.wanted) (with_cache (w.agent a) cache) → IsGood w past → IsGood (interrupted w a cache) past
+cached_good w past a cache is good = good_of (interrupted w a cache) past (interrupted_known w past.accepted a cache good.known) good.entered
+    (quiet_right w past.wanted a (with_cache (w.agent a) cache) refl (λ other. omega arith) is (asks_cached (w.agent a) cache (good.asks a)) (right_of w past good))
+
+pub interrupted_good : (w : World) (past : Past) (k : ℕ) (sent : Sent) (cache : Cache)
+    → w.post k ≡ Some sent
+    → TookFirst (w.agent sent.to).cache (offered sent.message) cache
+    → IsGood w past
+    → IsGood (interrupted w sent.to cache) past
+interrupted_good w past k sent cache there took good =
+    let post : IsPostAt w past.wanted sent = subst (λ (o : Option Sent). IfSome o (IsPostAt w past.wanted)) there (good.posts k) in
+    cached_good w past sent.to cache (agent_interrupted (moment_of w past.wanted) (w.agent sent.to) sent.message cache post.message took (good.agents sent.to)) good
+
 pub evicted_good : (w : World) (past : Past) (a : AgentId) (name : List Label)
     → is_complete (w.agent a).cache.contents name ≡ true
     → IsGood w past
     → IsGood (evicted_at w a name) past
-evicted_good w past a name complete good = good_of (evicted_at w a name) past (evicted_known w past.accepted a name good.known) good.entered
-    (quiet_right w past.wanted a (with_cache (w.agent a) (evicted_from (w.agent a).cache name)) refl (λ other. omega arith)
-    (agent_evicted (moment_of w past.wanted) (w.agent a) name complete (good.agents a)) (asks_cached (w.agent a) (evicted_from (w.agent a).cache name) (good.asks a)) (right_of w past good))
+evicted_good w past a name complete good = cached_good w past a (evicted_from (w.agent a).cache name) (agent_evicted (moment_of w past.wanted) (w.agent a) name complete (good.agents a)) good
 
 -- ---- what is lent
 

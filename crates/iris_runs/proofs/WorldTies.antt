@@ -14,7 +14,7 @@ use Rattle.iris_migrate.specs.declared.direct.Direct.TheVariants as directed
 use Rattle.iris_migrate.specs.declared.message.Message.{Message}
 use Rattle.iris_migrate.specs.declared.message.Message.TheVariants.{Query, Ask, Reply, Update, Handover}
 use Rattle.iris_migrate.specs.Titles.{direct}
-use Rattle.iris_cache.specs.Recency.{evicted_from}
+use Rattle.iris_cache.specs.Recency.{Cache, evicted_from}
 use Rattle.iris_need.specs.declared.need.Need.{Need}
 use Rattle.iris_gather.specs.declared.basis.Basis.{Basis}
 use Rattle.iris_gather.specs.declared.entries.OpenGather.{OpenGather}
@@ -40,7 +40,7 @@ use Rattle.iris_protocol.proofs.Programs.{field_at, field_same}
 use Rattle.iris_runs.specs.Alike.{AsksForSome, MayBeHandled, HaveOwnIds, arrival_at}
 use Rattle.iris_runs.specs.Letters.{agent_of, need_of, gather_of, letter_of, is_kept, arrival_of, decision_of}
 use Rattle.iris_runs.specs.Worlds.{Sent, World, title_of, owner_of, epoch_of, marked, with_agent, after, post_of, program_of}
-use Rattle.iris_runs.specs.Happenings.{query_posted, update_posted, is_over, message_arrives, delivered, decision_at, decided, lent_there, move_of, given, forgotten, evicted_at, advanced}
+use Rattle.iris_runs.specs.Happenings.{query_posted, update_posted, is_over, message_arrives, delivered, interrupted, decision_at, decided, lent_there, move_of, given, forgotten, evicted_at, advanced}
 use Rattle.iris_runs.proofs.MessageTies.{message_handled}
 use Rattle.iris_runs.proofs.DecisionTies.{decision_tie, give_tie}
 use Rattle.iris_runs.proofs.SeatTies.{gather_tie}
@@ -419,9 +419,13 @@ forgotten_is w accepted stays = λ i. record (program_happens (program_of w acce
     by true o = refl
     by false o = refl
 
-pub evicted_is : (w : World) (accepted : List model.Entry) (a : AgentId) (name : List Label) → program_of (evicted_at w a name) accepted ≡ program_of w accepted
+-- the protocol sees nothing of a cache
+pub interrupted_is : (w : World) (accepted : List model.Entry) (a : AgentId) (cache : Cache) → program_of (interrupted w a cache) accepted ≡ program_of w accepted
 unfolding program_of agent_of
-evicted_is w accepted a name = λ i. record (program_of w accepted) { agent = field_same agents agent_of w.agent a (with_cache (w.agent a) (evicted_from (w.agent a).cache name)) refl i }
+interrupted_is w accepted a cache = λ i. record (program_of w accepted) { agent = field_same agents agent_of w.agent a (with_cache (w.agent a) cache) refl i }
+
+pub evicted_is : (w : World) (accepted : List model.Entry) (a : AgentId) (name : List Label) → program_of (evicted_at w a name) accepted ≡ program_of w accepted
+evicted_is w accepted a name = interrupted_is w accepted a (evicted_from (w.agent a).cache name)
 
 pub advanced_is : (w : World) (accepted : List model.Entry) (moment : ℕ) → program_of (advanced w moment) accepted ≡ program_of w accepted
 unfolding program_of

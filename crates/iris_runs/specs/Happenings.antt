@@ -5,7 +5,7 @@ use Rattle.iris_tree.specs.declared.change.Change.{Change}
 use Rattle.iris_xpath.specs.Syntax.{Syntax}
 use Rattle.iris_route.specs.Titles.{with_title}
 use Rattle.iris_book.specs.Entering.{without_answers}
-use Rattle.iris_cache.specs.Recency.{evicted_from}
+use Rattle.iris_cache.specs.Recency.{Cache, evicted_from}
 use Rattle.iris_migrate.specs.declared.message.Message.{Message}
 use Rattle.iris_migrate.specs.declared.message.Message.TheVariants.{Query, Ask, Reply, Update, Handover}
 use Rattle.iris_gather.specs.declared.basis.Basis.{Basis}
@@ -52,6 +52,10 @@ message_arrives w serving kept waiting sent = if is_over w serving sent.message 
 abbrev pub delivered : World → Bool → Bool → Option ℕ → ℕ → Option Sent → World
 delivered w serving kept waiting k None = w
 delivered w serving kept waiting k (Some sent) = message_arrives (marked w k) serving kept waiting sent
+
+-- an arrival that ended for want of memory: that is the agent's cache then, which may have taken in some first pieces of the message
+abbrev pub interrupted : World → AgentId → Cache → World
+interrupted w a cache = with_agent w a (with_cache (w.agent a) cache)
 
 -- ---- gathers
 

@@ -4,6 +4,7 @@ ghost use Rattle.iris_base.specs.declared.name.Label.{Label};
 ghost use Rattle.iris_tree.specs.declared.change.Change.{Change};
 ghost use Rattle.iris_xpath.specs.Syntax.{Syntax};
 ghost use Rattle.iris_route.specs.Titles.{title_at};
+ghost use Rattle.iris_cache.specs.Recency.{Cache};
 ghost use Rattle.iris_gather.specs.declared.basis.Basis.{Basis};
 ghost use Rattle.iris_gather.specs.declared.entries.OpenGather.{OpenGather};
 ghost use Rattle.iris_gather.specs.Laid.{laid};
@@ -13,7 +14,7 @@ ghost use Rattle.iris_runs.specs.Alike.{HaveOwnIds};
 ghost use Rattle.iris_runs.specs.Among.{AreOwnedAmong, AreAmong};
 ghost use Rattle.iris_runs.specs.Entered.{KeptUpdates};
 ghost use Rattle.iris_runs.specs.Good.{Past, IsGood};
-ghost use Rattle.iris_runs.specs.Happenings.{query_posted, update_posted, delivered, decided, lent_there, given, evicted_at, advanced, forgotten};
+ghost use Rattle.iris_runs.specs.Happenings.{query_posted, update_posted, delivered, interrupted, decided, lent_there, given, evicted_at, advanced, forgotten};
 ghost use Rattle.iris_runs.specs.Starts.{IsStart};
 ghost use Rattle.iris_runs.specs.Worlds.{World};
 
@@ -37,6 +38,7 @@ pub fn cities_keep_their_agents()
         → HaveOwnIds w
         → AreAmong here w
         → AreAmong here (delivered w serving kept waiting k (w.post k)) }
+    ensures interrupted { (here : AgentId → Bool) (w : World) (a : AgentId) (cache : Cache) → AreAmong here w → AreAmong here (interrupted w a cache) }
     ensures decision { (here : AgentId → Bool) (w : World) (past : Past) (a : AgentId) (number : ℕ) (one : OpenGather) (basis : Basis)
         → here a ≡ true
         → (w.agent a).gather number ≡ Some one

@@ -14,7 +14,7 @@ ghost use Rattle.iris_book.specs.Book.{latest, value_at, last_number_at, with_en
 ghost use Rattle.iris_book.specs.declared.entry.Entry.TheVariants as entries;
 ghost use Rattle.iris_gather.specs.declared.parent.Parent.TheVariants as parents;
 ghost use Rattle.iris_gather.specs.declared.verdict.Verdict.TheVariants.{Done};
-ghost use Rattle.iris_cache.specs.Recency.{is_complete};
+ghost use Rattle.iris_cache.specs.Recency.{Cache, TookFirst, is_complete};
 ghost use Rattle.iris_migrate.specs.declared.key.Key.TheVariants as keys;
 ghost use Rattle.iris_migrate.specs.declared.message.Handover.{Handover as Handed};
 ghost use Rattle.iris_migrate.specs.declared.message.Message.TheVariants.{Handover};
@@ -25,6 +25,7 @@ ghost use Rattle.iris_gather.specs.declared.entries.OpenGather.{OpenGather};
 ghost use Rattle.iris_gather.specs.Laid.{laid};
 ghost use Rattle.iris_gather.specs.OpenGathers.{is_due, is_ready, awaits, serves_ask};
 ghost use Rattle.iris_agent.specs.Decisions.{AreRouted, MayStart, IsBasis};
+ghost use Rattle.iris_agent.specs.Events.{offered};
 ghost use Rattle.iris_agent.specs.Updates.{value_owned};
 ghost use Rattle.iris_protocol.specs.Good.{Fits};
 ghost use Rattle.iris_protocol.specs.Program.{Tells};
@@ -35,7 +36,7 @@ ghost use Rattle.iris_runs.specs.Answers.{AnswersRightly};
 ghost use Rattle.iris_runs.specs.Alike.{MayBeHandled, IsWaitedFor, WaitsOnce};
 ghost use Rattle.iris_runs.specs.Entered.{KeptUpdates};
 ghost use Rattle.iris_runs.specs.Good.{Past, IsGood};
-ghost use Rattle.iris_runs.specs.Happenings.{query_posted, update_posted, counted, delivered, decided, lent_there, given, evicted_at, advanced, forgotten};
+ghost use Rattle.iris_runs.specs.Happenings.{query_posted, update_posted, counted, delivered, interrupted, decided, lent_there, given, evicted_at, advanced, forgotten};
 ghost use Rattle.iris_runs.specs.Rest.{IsStill, IsAtRest};
 ghost use Rattle.iris_runs.specs.Starts.{IsStart};
 ghost use Rattle.iris_runs.specs.Letters.{rank_of, need_of, letter_of, agent_of};
@@ -81,7 +82,8 @@ pub fn cities_begin_good()
     ensures answers { (rows : KeptUpdates) (w : World) → IsStart rows w → AnswersRightly w }
 {}
 
-/// A good city stays one, whatever happens in it. This call does nothing.
+/// A good city stays one, whatever happens in it, also where an arrival ends early for want of memory. This
+/// call does nothing.
 pub fn cities_stay_good()
     ensures query { (w : World) (past : Past) (asked : Syntax) (name : List Label) (floor : ℕ)
         → IsSome (node_at w.history.start name)
@@ -98,6 +100,11 @@ pub fn cities_stay_good()
         → IfSome (w.post k) (λ sent. (ask : ℕ) → letter_of sent.message ≡ model.reply ask → IsWaitedFor (w.agent sent.to).gather ask waiting)
         → IsGood w past
         → (after : Past) × IsGood (delivered w serving kept waiting k (w.post k)) after }
+    ensures interrupted { (w : World) (past : Past) (k : ℕ) (sent : Sent) (cache : Cache)
+        → w.post k ≡ Some sent
+        → TookFirst (w.agent sent.to).cache (offered sent.message) cache
+        → IsGood w past
+        → IsGood (interrupted w sent.to cache) past }
     ensures decision { (w : World) (past : Past) (a : List ℕ) (number : ℕ) (one : OpenGather) (basis : Basis)
         → (w.agent a).gather number ≡ Some one
         → is_ready (Some one) ≡ true
@@ -136,6 +143,7 @@ pub fn cities_answer_rightly()
         → IsGood w past
         → AnswersRightly w
         → AnswersRightly (delivered w serving kept waiting k (w.post k)) }
+    ensures interrupted { (w : World) (a : List ℕ) (cache : Cache) → AnswersRightly w → AnswersRightly (interrupted w a cache) }
     ensures decision { (w : World) (past : Past) (a : List ℕ) (number : ℕ) (one : OpenGather) (basis : Basis)
         → (w.agent a).gather number ≡ Some one
         → IsBasis one.gather.query one.gather.start (laid (w.agent a).cache.contents one.gather.floor w.turn.now one.gather.view) basis

@@ -1,4 +1,4 @@
-use Rattle.iris_runs.proofs.AmongCities.{begun_among, query_among, update_among, delivered_among, decided_among, lent_among, given_among, evicted_among, advanced_among, forgotten_among}
+use Rattle.iris_runs.proofs.AmongCities.{begun_among, query_among, update_among, delivered_among, interrupted_among, decided_among, lent_among, given_among, evicted_among, advanced_among, forgotten_among}
 use Rattle.iris_runs.proofs.among_laws.cities_keep_their_agents.Goals as goal
 
 pub returns-clause-begun : goal.returns-clause-begun
@@ -12,6 +12,9 @@ returns-clause-update c = update_among
 
 pub returns-clause-arrival : goal.returns-clause-arrival
 returns-clause-arrival c = delivered_among
+
+pub returns-clause-interrupted : goal.returns-clause-interrupted
+returns-clause-interrupted c = interrupted_among
 
 pub returns-clause-decision : goal.returns-clause-decision
 returns-clause-decision c = decided_among

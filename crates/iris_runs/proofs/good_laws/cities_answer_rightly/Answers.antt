@@ -5,6 +5,9 @@ use Rattle.iris_runs.proofs.good_laws.cities_answer_rightly.Goals as goal
 pub returns-clause-arrival : goal.returns-clause-arrival
 returns-clause-arrival c = delivered_answers
 
+pub returns-clause-interrupted : goal.returns-clause-interrupted
+returns-clause-interrupted c w a cache right = right
+
 pub returns-clause-decision : goal.returns-clause-decision
 returns-clause-decision c = decided_answers
 

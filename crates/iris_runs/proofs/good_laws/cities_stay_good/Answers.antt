@@ -2,7 +2,7 @@ use Rattle.iris_runs.proofs.StayArrived.{arrived_good}
 use Rattle.iris_runs.proofs.StayPosted.{query_good, update_good, counted_good}
 use Rattle.iris_runs.proofs.StayDecided.{decided_good}
 use Rattle.iris_runs.proofs.StayGiven.{given_good}
-use Rattle.iris_runs.proofs.StayQuiet.{advanced_good, evicted_good, lent_good, back_good, forgotten_good}
+use Rattle.iris_runs.proofs.StayQuiet.{advanced_good, interrupted_good, evicted_good, lent_good, back_good, forgotten_good}
 use Rattle.iris_runs.proofs.good_laws.cities_stay_good.Goals as goal
 
 pub returns-clause-query : goal.returns-clause-query
@@ -37,3 +37,6 @@ returns-clause-decision c = decided_good
 
 pub returns-clause-arrival : goal.returns-clause-arrival
 returns-clause-arrival c = arrived_good
+
+pub returns-clause-interrupted : goal.returns-clause-interrupted
+returns-clause-interrupted c = interrupted_good
