@@ -1,4 +1,10 @@
+pub mod AgentEvents
+pub mod AgentTables
+pub mod ChangedAgent
 pub mod Changes
 pub mod ClientPosts
+pub mod DecidedAt
 pub mod Following
+pub mod MayHere
+pub mod QuietEvents
 pub mod SteadyCities

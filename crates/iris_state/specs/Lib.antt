@@ -1,3 +1,4 @@
 pub mod Agents
 pub mod City
+pub mod Events
 pub mod Whole

@@ -12,7 +12,7 @@ pub(crate) fn place_of(agents: &[Agent], id: AgentId) -> Option<usize>
 {
     let mut at = 0;
     while at < agents.len() {
-        if agents[at].id() == id {
+        if id == agents[at].id() {
             return Some(at);
         }
         at += 1;

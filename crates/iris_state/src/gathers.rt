@@ -1,12 +1,15 @@
 //! Gathers that go on.
-ghost use Rattle.std.specs.Prelude.{◌≡◌, true, IfOk, OnErr};
+ghost use Rattle.std.specs.Prelude.{◌≡◌, true, false, Some, IfOk, OnOk, OnErr};
 ghost use Rattle.iris_gather.specs.OpenGathers.{is_due};
+ghost use Rattle.iris_runs.specs.Happenings.{lent_there};
+ghost use Rattle.iris_state.specs.Agents.{is_here};
 ghost use Rattle.iris_state.specs.City.{IsSteady};
-ghost use Rattle.iris_state.specs.Events.{HasDecidedAt};
+ghost use Rattle.iris_state.specs.Events.{HasDecidedAt, job_at};
 ghost use Rattle.iris_state.specs.Whole.{world_of};
 
 use crate::agents::place_of;
 use crate::state::State;
+use iris_agent::Job;
 use iris_json::Out;
 use iris_tree::{AgentId, Mem};
 use std::alloc::AllocError;
@@ -31,5 +34,35 @@ impl State {
         let ready = room.ready();
         self.outbox.set(ready);
         Ok(self.follow(steps))
+    }
+
+    /// Lends the open gather of that number at that agent, which is due: it decides nothing until it is given
+    /// back. Where there is no memory the city is as before.
+    pub fn job(&mut self, id: AgentId, gather: u64) -> Mem<Job>
+        requires steady { IsSteady self.old }
+        requires due { is_due (((world_of self.old).agent id).gather gather) ≡ true }
+        ensures job { IfOk result (λ job. job_at (world_of self.old) id gather ≡ Some job) }
+        ensures city { OnOk result (world_of self.new ≡ lent_there (world_of self.old) id gather true) }
+        ensures err { OnErr result (world_of self.new ≡ world_of self.old) }
+        ensures steady { IsSteady self.new }
+    {
+        let Some(at) = place_of(&self.agents, id) else {
+            unreachable!();
+        };
+        self.agents[at].job(gather, self.turn.now)
+    }
+
+    /// The open gather of that number at that agent, if it is lent, is due again; any other stays as it is. It
+    /// takes no memory.
+    pub fn give_back(&mut self, id: AgentId, gather: u64)
+        requires steady { IsSteady self.old }
+        requires here { is_here self.old.agents id ≡ true }
+        ensures city { world_of self.new ≡ lent_there (world_of self.old) id gather false }
+        ensures steady { IsSteady self.new }
+    {
+        let Some(at) = place_of(&self.agents, id) else {
+            unreachable!();
+        };
+        self.agents[at].give_back(gather);
     }
 }

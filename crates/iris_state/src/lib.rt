@@ -2,6 +2,9 @@
 //! book, as one value, and what happens in it.
 #![tactic(auto)]
 
+mod agents;
+mod copies;
+mod gathers;
 mod posting;
 mod state;
 
