@@ -19,6 +19,7 @@ at_place document (x ∷ hs) id place h is there = either (λ m at there. at_pla
     later go None at place is there = absurd (cc)
     later go (Some n) at zero is there = absurd (cc)
     later go (Some n) at (suc m) is there = go m (at ∙ cc) there
+
     either : ((m : ℕ) → place_in id hs ≡ Some m → slice_get hs m ≡ Some h → agent_by document hs id ≡ tables_of h)
         → (b : Bool) (place : ℕ) → (if b then Some 0 else option_map suc (place_in id hs)) ≡ Some place → slice_get (x ∷ hs) place ≡ Some h
         → (if b then tables_of x else agent_by document hs id) ≡ tables_of h
@@ -34,6 +35,7 @@ at_none document (x ∷ hs) id is = either (λ at. at_none document hs id at) (h
     later : (place_in id hs ≡ None → agent_by document hs id ≡ outside document id) → (o : Option ℕ) → place_in id hs ≡ o → option_map suc o ≡ None → agent_by document hs id ≡ outside document id
     later go None at is = go at
     later go (Some n) at is = absurd (cc)
+
     either : (place_in id hs ≡ None → agent_by document hs id ≡ outside document id) → (b : Bool) → (if b then Some 0 else option_map suc (place_in id hs)) ≡ None
         → (if b then tables_of x else agent_by document hs id) ≡ outside document id
     either go true is = absurd (cc)
@@ -66,8 +68,10 @@ place_on hs id at h there same from =
   where
     one_on : suc at ≡ at + 1
     one_on = omega arith
+
     one_more : (n : ℕ) → at + suc n ≡ at + 1 + n
     one_more n = omega arith
+
     behind : (o : Option ℕ) → option_map (λ n. at + n) (option_map suc o) ≡ option_map (λ n. at + 1 + n) o
     behind None = refl
     behind (Some n) = ap Some (one_more n)

@@ -67,8 +67,10 @@ table_set document (x ∷ hs) place before after id is there same other = either
   where
     Below : Type 0
     Below = (m : ℕ) → place_in id hs ≡ Some m → slice_get hs m ≡ Some before → agent_by document (slice_set hs m after) other ≡ set_at agents (agent_by document hs) id (tables_of after) other
+
     At : ℕ → Type 0
     At p = agent_by document (slice_set (x ∷ hs) p after) other ≡ set_at agents (agent_by document (x ∷ hs)) id (tables_of after) other
+
     first : has_id id x ≡ true → x ≡ before → At 0
     first mine is_before =
         let x_id : x.id ≡ id = sym ((agents.decides id x.id).0 mine) in
@@ -76,12 +78,14 @@ table_set document (x ∷ hs) place before after id is there same other = either
         ap (λ (one : AgentId). if agents.same other one then tables_of after else agent_by document hs other) after_id
         ∙ elim (agents.same other id) as (λ b. (if b then tables_of after else agent_by document hs other) ≡ (if b then tables_of after else if b then tables_of x else agent_by document hs other)) [ true ↦ refl | false ↦ refl ]
         ∙ ap (λ (one : AgentId). if agents.same other id then tables_of after else if agents.same other one then tables_of x else agent_by document hs other) (sym x_id)
+
     later : Below → has_id id x ≡ false → (o : Option ℕ) → place_in id hs ≡ o → (p : ℕ) → option_map suc o ≡ Some p → slice_get (x ∷ hs) p ≡ Some before → At p
     later below differs None at p is there = absurd (cc)
     later below differs (Some n) at zero is there = absurd (cc)
     later below differs (Some n) at (suc m) is there =
         ap (λ (t : Tables). if agents.same other x.id then tables_of x else t) (below m (at ∙ cc) there)
         ∙ apart other id x.id (tables_of after) (tables_of x) (agent_by document hs other) differs
+
     either : Below → (b : Bool) → has_id id x ≡ b → (p : ℕ) → (if b then Some 0 else option_map suc (place_in id hs)) ≡ Some p → slice_get (x ∷ hs) p ≡ Some before → At p
     either below true mine zero is there = first mine (same_Some _ _ there)
     either below true mine (suc p) is there = absurd (cc)

@@ -147,8 +147,7 @@ decided_room old id place number before after turn made is there h steady =
     let agent : w.agent id ≡ tables_of before = at_place old.book.history.start old.agents id place before is there in
     let g = settled h.one.gather h.basis.verdict h.basis.pieces old.turn.next_ask in
     let below : (request : ℕ) → g.parent ≡ parents.Client request → request < old.requests.made =
-        (λ request client. (client_open w steady.past.accepted steady.good.known id number h.one request (ap (λ (t : Tables). t.gather number) agent ∙ h.there) client).0) in
-    (
+    (λ request client. (client_open w steady.past.accepted steady.good.known id number h.one request (ap (λ (t : Tables). t.gather number) agent ∙ h.there) client).0) in (
       subst (λ ss. answers_in ss ≤ 1) (sym h.does.steps) (judged_answers old.registry (tables_of before) old.turn number g h.basis.cites h.basis.verdict),
       subst (All (IsOf old.requests.made)) (sym h.does.steps) (judged_of old.requests.made old.registry (tables_of before) old.turn number g h.basis.cites h.basis.verdict below),
     )
@@ -161,6 +160,7 @@ here_at (x ∷ hs) id place is = either (λ m at. here_at hs id m at) (has_id id
     later : ((m : ℕ) → place_in id hs ≡ Some m → is_here hs id ≡ true) → (o : Option ℕ) → place_in id hs ≡ o → option_map suc o ≡ Some place → is_here hs id ≡ true
     later go None at is = absurd (cc)
     later go (Some n) at is = go n at
+
     either : ((m : ℕ) → place_in id hs ≡ Some m → is_here hs id ≡ true) → (b : Bool) → (if b then Some 0 else option_map suc (place_in id hs)) ≡ Some place → (b || is_here hs id) ≡ true
     either go true is = refl
     either go false is = later go (place_in id hs) refl is

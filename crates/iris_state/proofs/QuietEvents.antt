@@ -158,6 +158,7 @@ here_none (x ∷ hs) id is = either (λ at. here_none hs id at) (has_id id x) is
     later : (place_in id hs ≡ None → is_here hs id ≡ false) → (o : Option ℕ) → place_in id hs ≡ o → option_map suc o ≡ None → is_here hs id ≡ false
     later go None at is = go at
     later go (Some n) at is = absurd (cc)
+
     either : (place_in id hs ≡ None → is_here hs id ≡ false) → (b : Bool) → (if b then Some 0 else option_map suc (place_in id hs)) ≡ None → (b || is_here hs id) ≡ false
     either go true is = absurd (cc)
     either go false is = later go (place_in id hs) refl is

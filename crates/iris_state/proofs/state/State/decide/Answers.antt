@@ -18,7 +18,7 @@ use Rattle.iris_state.proofs.state.State.decide.Goals as goal
 pub unreachable-requires : goal.unreachable-requires
 unreachable-requires c =
     let none : place_in c.args.id c.args.self.now.agents ≡ None =
-        ap (λ (o : Whole). place_in c.args.id o.agents) (sym c.self.view_is) ∙ ap (place_in c.args.id) (sym c.deref.ensures.value) ∙ sym c.place_of.ensures.place ∙ c.in_default.is in
+    ap (λ (o : Whole). place_in c.args.id o.agents) (sym c.self.view_is) ∙ ap (place_in c.args.id) (sym c.deref.ensures.value) ∙ sym c.place_of.ensures.place ∙ c.in_default.is in
     let no = due_here c.args.self.now c.args.id c.args.gather none in
     let due = c.requires.due in
     cc
@@ -79,7 +79,7 @@ pub follow-requires-clause-book : goal.follow-requires-clause-book
 follow-requires-clause-book c =
     let found = found_agent c.self.inside.agents.items c.deref.result.now c.args.id c.in-Some.at c.index_mut.result.now c.deref.ensures.value c.in-Some.ensures.place c.in-Some.ensures.within c.index_mut.ensures.value in
     let room = decided_room (the_view c.self.inside) c.args.id c.in-Some.at c.args.gather c.index_mut.result.now c.decide.new.self c.decide.new.turn c.in_ok-steps.steps.items found.0 found.1 c.in_ok-steps.ensures.decided
-        (subst IsSteady (sym c.self.view_is) c.requires.steady) in
+    (subst IsSteady (sym c.self.view_is) c.requires.steady) in
     let least = c.in_ok-reserve.ensures.ok in
     let most = room.0 in
     omega (arith, least, most)

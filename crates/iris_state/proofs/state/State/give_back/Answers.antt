@@ -11,7 +11,7 @@ use Rattle.iris_state.proofs.state.State.give_back.Goals as goal
 pub unreachable-requires : goal.unreachable-requires
 unreachable-requires c =
     let none : place_in c.args.id c.args.self.now.agents ≡ None =
-        ap (λ (o : Whole). place_in c.args.id o.agents) (sym c.self.view_is) ∙ ap (place_in c.args.id) (sym c.deref.ensures.value) ∙ sym c.place_of.ensures.place ∙ c.in_default.is in
+    ap (λ (o : Whole). place_in c.args.id o.agents) (sym c.self.view_is) ∙ ap (place_in c.args.id) (sym c.deref.ensures.value) ∙ sym c.place_of.ensures.place ∙ c.in_default.is in
     let no = here_none c.args.self.now.agents c.args.id none in
     let here = c.requires.here in
     cc

@@ -19,7 +19,7 @@ use Rattle.iris_state.proofs.state.State.job.Goals as goal
 pub unreachable-requires : goal.unreachable-requires
 unreachable-requires c =
     let none : place_in c.args.id c.args.self.now.agents ≡ None =
-        ap (λ (o : Whole). place_in c.args.id o.agents) (sym c.self.view_is) ∙ ap (place_in c.args.id) (sym c.deref.ensures.value) ∙ sym c.place_of.ensures.place ∙ c.in_default.is in
+    ap (λ (o : Whole). place_in c.args.id o.agents) (sym c.self.view_is) ∙ ap (place_in c.args.id) (sym c.deref.ensures.value) ∙ sym c.place_of.ensures.place ∙ c.in_default.is in
     let no = due_here c.args.self.now c.args.id c.args.gather none in
     let due = c.requires.due in
     cc
@@ -36,9 +36,9 @@ returns-clause-job c =
     let found = found_agent c.self.inside.agents.items c.deref.result.now c.args.id c.in-Some.at c.index_mut.result.now c.deref.ensures.value c.in-Some.ensures.place c.in-Some.ensures.within c.index_mut.ensures.value in
     let agent = agent_there (the_view c.self.inside) c.args.id c.in-Some.at c.index_mut.result.now found.0 found.1 in
     IfOk-weaker c.job.result _ _ (λ job is.
-      ap (λ (o : Whole). job_at (world_of o) c.args.id c.args.gather) (sym c.self.view_is)
-      ∙ ap (λ (t : Tables). option_map (λ one. record { gather = c.args.gather; query = one.gather.query; start = one.gather.start; view = laid t.cache.contents one.gather.floor c.self.inside.turn.now one.gather.view }) (t.gather c.args.gather)) agent
-      ∙ is)
+    ap (λ (o : Whole). job_at (world_of o) c.args.id c.args.gather) (sym c.self.view_is)
+    ∙ ap (λ (t : Tables). option_map (λ one. record { gather = c.args.gather; query = one.gather.query; start = one.gather.start; view = laid t.cache.contents one.gather.floor c.self.inside.turn.now one.gather.view }) (t.gather c.args.gather)) agent
+    ∙ is)
     c.job.ensures.job
 
 pub returns-clause-city : goal.returns-clause-city
