@@ -5,7 +5,7 @@ ghost use Rattle.std.specs.Cmp.Lexicographic.{pointwise};
 ghost use Rattle.iris_base.specs.declared.name.Label.{Label};
 ghost use Rattle.iris_base.specs.NameOrder.{label_eq};
 ghost use Rattle.iris_tree.specs.Universe.{node_at};
-ghost use Rattle.iris_route.specs.Titles.{title_at, IsNewer, top_name};
+ghost use Rattle.iris_route.specs.Titles.{title_at, with_title, IsNewer, top_name};
 ghost use Rattle.iris_route.specs.Start.{start_titles, start_owner};
 ghost use Rattle.iris_route.specs.Routes.{longest_prefix};
 
@@ -89,6 +89,9 @@ impl Registry {
     /// Gives a node to an agent, with a greater epoch. It takes no memory.
     pub fn set(&mut self, name: &Name, agent: AgentId, epoch: u64)
         requires { IsNewer self.old name.now epoch }
+        ensures titles { self.new ≡ with_title self.old name.now (agent, epoch) }
+
+        // What follows at each name.
         ensures title { title_at self.new name.now ≡ Some (agent, epoch) }
         ensures others { (other : List Label) → pointwise label_eq other name.now ≡ false → title_at self.new other ≡ title_at self.old other }
         ensures nodes { keys_of self.new ≡ keys_of self.old }
