@@ -1,5 +1,5 @@
 //! What is sent and told as the steps of an event are made.
-ghost use Rattle.std.specs.Prelude.{◌≡◌, ℕ, suc, ◌<◌, ◌≤◌, ◌^◌, true, false, List, [], ◌∷◌, ◌++◌, length, Some, IfOk, OnOk, IsSome};
+ghost use Rattle.std.specs.Prelude.{◌≡◌, ℕ, suc, ◌+◌, ◌<◌, ◌≤◌, ◌^◌, true, false, if◌then◌else◌, List, [], ◌∷◌, ◌++◌, length, Some, None, IfOk, OnOk, IsSome};
 ghost use Rattle.iris_tree.specs.TextLen.{saturated};
 ghost use Rattle.iris_posts.specs.Posts.{post_at, is_seen};
 ghost use Rattle.iris_posts.specs.Weights.{weight_of};
@@ -160,6 +160,17 @@ impl Outbox {
         ensures rest { self.new ≡ record self.old { posts = self.new.posts } }
     {
         self.posts.mark(number);
+    }
+
+    /// Drops the posts that were delivered, and answers how many these were. It takes no memory.
+    pub fn forget(&mut self) -> u64
+        ensures dropped { result + length self.new.posts.kept ≡ length self.old.posts.kept }
+        ensures post { (other : ℕ) → post_at self.new.posts other ≡ (if is_seen self.old.posts other then None else post_at self.old.posts other) }
+        ensures seen { (other : ℕ) → is_seen self.new.posts other ≡ is_seen self.old.posts other }
+        ensures made { self.new.posts.made ≡ self.old.posts.made }
+        ensures rest { self.new ≡ record self.old { posts = self.new.posts } }
+    {
+        self.posts.forget()
     }
 
     /// Sends a message to an agent: it is the next post, and room was made for it. It takes no memory.
