@@ -1,6 +1,7 @@
 -- What an event at one agent leaves of a city.
-use Rattle.std.proofs.Common.{◌≡◌, ℕ, List, Some, fold, refl, sym, ap, ◌∙◌, subst}
-use Rattle.std.specs.Prelude.{Result, Ok, Err, OnErr, slice_get, slice_set, option_map, nat_lt, Bool, ◌&&◌}
+use Rattle.std.proofs.Common.{◌≡◌, ℕ, List, Some, fold, sym, ap, ◌∙◌, subst}
+use Rattle.std.specs.Result.{IsErrAnd}
+use Rattle.std.specs.Prelude.{Result, Ok, Err, IfErr, OnErr, slice_get, slice_set, option_map, nat_lt, Bool, ◌&&◌}
 use Rattle.iris_tree.specs.Universe.{Node}
 use Rattle.iris_book.specs.Book.{History, with_entry}
 use Rattle.iris_posts.specs.Posts.{kept_at, is_over}
@@ -8,6 +9,7 @@ use Rattle.iris_agent.specs.declared.step.Step.{Step}
 use Rattle.iris_agent.specs.declared.turn.Turn.{Turn}
 use Rattle.iris_agent.specs.Handled.{Handled}
 use Rattle.iris_agent.specs.Tables.{Holdings, Tables, tables_of}
+use Rattle.iris_outbox.specs.Outbox.{Outgoing}
 use Rattle.iris_protocol.specs.Table.{AgentId}
 use Rattle.iris_runs.specs.Among.{AreAmong}
 use Rattle.iris_runs.specs.Answers.{AnswersRightly}
@@ -22,6 +24,11 @@ use Rattle.iris_state.proofs.SteadyCities.{steady_of}
 pub on_err : {T E P : Type 0} (r : Result T E) → P → OnErr r P
 on_err (Ok x) p = tt
 on_err (Err e) p = p
+
+-- what holds of the error that was returned
+pub if_err : {T E : Type 0} (r : Result T E) (P : E → Type 0) (e : E) → IsErrAnd r (λ x. x ≡ e) → P e → IfErr r P
+if_err (Ok x) P e is p = tt
+if_err (Err x) P e is p = subst P (sym is) p
 
 -- an agent, the turn and the book changed, and no post did
 pub acted : (old mid : Whole) (id : AgentId) (place : ℕ) (before after : Holdings)
@@ -44,6 +51,22 @@ acted old mid id place before after is there same start rest kept made =
       turn = mid.turn;
       history = mid.book.history;
     })
+
+-- an agent changed, and nothing else did but the room in the book
+pub agent_changed : (old mid : Whole) (id : AgentId) (place : ℕ) (before after : Holdings)
+    → place_in id old.agents ≡ Some place
+    → slice_get old.agents place ≡ Some before
+    → after.id ≡ before.id
+    → mid.turn ≡ old.turn
+    → mid.book.history ≡ old.book.history
+    → mid ≡ record old { agents = slice_set old.agents place after; turn = mid.turn; book = mid.book }
+    → world_of mid ≡ with_agent (world_of old) id (tables_of after)
+unfolding world_of
+agent_changed old mid id place before after is there same turn history rest =
+    acted old mid id place before after is there same (ap (λ (b : History). b.start) history)
+    (rest ∙ ap (λ (o : Outgoing). record old { agents = slice_set old.agents place after; outbox = o; turn = mid.turn; book = mid.book }) (sym (ap (λ (o : Whole). o.outbox) rest)))
+    (ap (λ (o : Whole). o.outbox.posts.kept) rest) (ap (λ (o : Whole). o.outbox.posts.made) rest)
+    ∙ (λ i. record (with_agent (world_of old) id (tables_of after)) { turn = turn i; history = history i })
 
 -- nothing changed but the room in the book
 pub unacted : (old new : Whole) → new ≡ record old { agents = new.agents; turn = new.turn; book = new.book } → new.agents ≡ old.agents → new.turn ≡ old.turn → new.book.history ≡ old.book.history → world_of new ≡ world_of old

@@ -1,13 +1,11 @@
 -- The agents of a city as a table, where one of them changes.
 use Rattle.std.proofs.Common.{◌≡◌, ℕ, zero, suc, ◌+◌, Bool, true, false, List, [], ◌∷◌, Option, Some, None, drop, length, get_or, ◌<◌, refl, sym, ap, ◌∙◌, subst, arith, if◌then◌else◌}
 use Rattle.std.proofs.lemmas.Option.{same_Some, slice_get_read}
-use Rattle.std.specs.Prelude.{IsSome, option_map, slice_get, slice_set}
-use Rattle.std.specs.List.{list_any}
+use Rattle.std.specs.Prelude.{option_map, slice_get}
 use Rattle.iris_tree.specs.Universe.{Node}
-use Rattle.iris_agent.specs.Tables.{Holdings, Tables, tables_of}
-use Rattle.iris_protocol.specs.Table.{AgentId, agents, set_at}
-use Rattle.iris_state.specs.Agents.{has_id, is_here, agent_by, outside, place_in}
-use Rattle.iris_state.specs.City.{HaveOwnPlaces}
+use Rattle.iris_agent.specs.Tables.{Holdings, tables_of}
+use Rattle.iris_protocol.specs.Table.{AgentId}
+use Rattle.iris_state.specs.Agents.{has_id, agent_by, outside, place_in}
 
 -- an agent stands in the table by its id
 pub at_place : (document : Node) (hs : List Holdings) (id : AgentId) (place : ℕ) (h : Holdings) → place_in id hs ≡ Some place → slice_get hs place ≡ Some h → agent_by document hs id ≡ tables_of h

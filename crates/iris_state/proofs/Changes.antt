@@ -1,6 +1,6 @@
 -- What the small changes of the parts of a city are, of the city.
-use Rattle.std.proofs.Common.{◌≡◌, ℕ, suc, Bool, true, false, List, [], ◌∷◌, ◌++◌, Option, Some, refl, sym, ap, ◌∙◌, subst}
-use Rattle.std.specs.Prelude.{Bool, ◌&&◌, option_map, nat_eq, nat_lt, if◌then◌else◌}
+use Rattle.std.proofs.Common.{◌≡◌, ℕ, suc, true, false, List, Option, Some, refl, ap, ◌∙◌}
+use Rattle.std.specs.Prelude.{◌&&◌, option_map, nat_eq, nat_lt, if◌then◌else◌}
 use Rattle.iris_base.specs.declared.cite.Cite.{Cite}
 use Rattle.iris_route.specs.Titles.{Titles}
 use Rattle.iris_book.specs.Book.{Recorded, with_entry}

@@ -1,16 +1,15 @@
 -- What is posted for a client's request.
-use Rattle.std.proofs.Common.{◌≡◌, ℕ, suc, List, [], ◌∷◌, Option, Some, fold, refl, sym, ap, ◌∙◌}
+use Rattle.std.proofs.Common.{◌≡◌, ℕ, suc, List, [], ◌∷◌, Option, Some, fold, ap, ◌∙◌}
 use Rattle.std.specs.Prelude.{unwrap_or}
 use Rattle.iris_base.specs.declared.name.Label.{Label}
 use Rattle.iris_tree.specs.declared.change.Change.{Change}
 use Rattle.iris_xpath.specs.Syntax.{Syntax}
-use Rattle.iris_route.specs.Titles.{Titles, Title, title_at}
-use Rattle.iris_migrate.specs.declared.message.Message.{Message}
+use Rattle.iris_route.specs.Titles.{Title, title_at}
 use Rattle.iris_migrate.specs.declared.message.Message.TheVariants.{Query, Update}
 use Rattle.iris_agent.specs.declared.step.Step.{Step}
 use Rattle.iris_agent.specs.declared.step.Step.TheVariants.{Post}
 use Rattle.iris_runs.specs.Happenings.{query_posted, update_posted}
-use Rattle.iris_runs.specs.Worlds.{World, stepped, posting, owner_of, epoch_of}
+use Rattle.iris_runs.specs.Worlds.{World, stepped, posting}
 
 -- a query was posted to the owner that the registry names
 pub query_post : (w mid new : World) (steps : List Step) (asked : Syntax) (name : List Label) (floor : ℕ) (title : Title)

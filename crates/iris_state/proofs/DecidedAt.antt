@@ -1,5 +1,5 @@
 -- A decision of a gather, as it changes a city.
-use Rattle.std.proofs.Common.{◌≡◌, ℕ, ◌+◌, ◌<◌, ◌≤◌, suc, true, false, Bool, List, [], ◌∷◌, Option, Some, None, All, map, fold, refl, sym, ap, ◌∙◌, subst, arith}
+use Rattle.std.proofs.Common.{◌≡◌, ℕ, ◌<◌, ◌≤◌, suc, true, false, Bool, List, [], ◌∷◌, Option, Some, None, All, map, fold, refl, sym, ap, ◌∙◌, subst, arith}
 use Rattle.std.proofs.lemmas.List.Elements.{All-nil, All-cons}
 use Rattle.std.specs.Prelude.{slice_get, slice_set, option_map, not, ◌&&◌, ◌||◌, if◌then◌else◌}
 use Rattle.iris_base.specs.declared.cite.Cite.{Cite}
@@ -8,7 +8,6 @@ use Rattle.iris_json.specs.declared.out.Out.{Out}
 use Rattle.iris_need.specs.declared.need.Need.{Need}
 use Rattle.iris_route.specs.Titles.{Titles}
 use Rattle.iris_book.specs.Book.{History, with_entry}
-use Rattle.iris_gather.specs.declared.basis.Basis.{Basis}
 use Rattle.iris_gather.specs.declared.entries.OpenGather.{OpenGather}
 use Rattle.iris_gather.specs.declared.parent.Parent.{Parent}
 use Rattle.iris_gather.specs.declared.parent.Parent.TheVariants as parents
@@ -19,20 +18,19 @@ use Rattle.iris_gather.specs.Laid.{laid}
 use Rattle.iris_gather.specs.OpenGathers.{gather_at, is_due, is_ready, is_lent}
 use Rattle.iris_agent.specs.declared.step.Step.{Step}
 use Rattle.iris_agent.specs.declared.turn.Turn.{Turn}
-use Rattle.iris_agent.specs.Decisions.{IsBasis, HasDecided, judged, decides, ending, ask_posted, asks_posted}
+use Rattle.iris_agent.specs.Decisions.{IsBasis, HasDecided, judged, ending, ask_posted}
 use Rattle.iris_agent.specs.Handled.{Handled}
 use Rattle.iris_agent.specs.Tables.{Holdings, Tables, tables_of}
 use Rattle.iris_outbox.specs.Lines.{lines_of}
 use Rattle.iris_outbox.specs.Outbox.{answers_in}
 use Rattle.iris_protocol.specs.Table.{AgentId}
-use Rattle.iris_runs.specs.Good.{IsGood}
-use Rattle.iris_runs.specs.Happenings.{decided, decision_at}
-use Rattle.iris_runs.specs.Worlds.{World, stepped}
+use Rattle.iris_runs.specs.Happenings.{decided}
+use Rattle.iris_runs.specs.Worlds.{stepped}
 use Rattle.iris_runs.proofs.AmongCities.{decided_among}
 use Rattle.iris_runs.proofs.AnswersRight.{decided_answers}
 use Rattle.iris_runs.proofs.KnownCities.{client_open}
 use Rattle.iris_runs.proofs.StayDecided.{decided_good}
-use Rattle.iris_state.specs.Agents.{agent_by, has_id, is_here, place_in}
+use Rattle.iris_state.specs.Agents.{has_id, is_here, place_in}
 use Rattle.iris_state.specs.City.{IsSteady}
 use Rattle.iris_state.specs.Events.{HasDecidedAt}
 use Rattle.iris_state.specs.Whole.{Whole, IsOf, world_of}
@@ -165,28 +163,29 @@ here_at (x ∷ hs) id place is = either (λ m at. here_at hs id m at) (has_id id
     either go true is = refl
     either go false is = later go (place_in id hs) refl is
 
+-- what is due waits for nothing
+pub ready_of_due : (o : Option OpenGather) → is_due o ≡ true → is_ready o ≡ true
+ready_of_due o due = either (is_ready o) due
+  where
+    either : (b : Bool) → (b && not (is_lent o)) ≡ true → b ≡ true
+    either true h = refl
+    either false h = absurd (cc)
+
 -- and it is steady then
 pub steady_decided : (old new : Whole) (id : AgentId) (place number : ℕ) (before after : Holdings) (made : List Step) (turn : Turn) (lines : List Out)
     → place_in id old.agents ≡ Some place
     → slice_get old.agents place ≡ Some before
     → HasDecided old.registry before after old.turn turn number made
-    → is_due (((world_of old).agent id).gather number) ≡ true
+    → is_ready (((world_of old).agent id).gather number) ≡ true
     → new.agents ≡ slice_set old.agents place after
     → HasDecidedAt (world_of old) id number (world_of new) lines
     → IsSteady old
     → IsSteady new
-steady_decided old new id place number before after made turn lines is there h due agents did steady =
+steady_decided old new id place number before after made turn lines is there h waits_not agents did steady =
     let w = world_of old in
-    let ready : is_ready (Some did.one) ≡ true = is_ready_of did.one (sym (ap is_due did.there) ∙ due) in
+    let ready : is_ready (Some did.one) ≡ true = sym (ap is_ready did.there) ∙ waits_not in
     let good = decided_good w steady.past id number did.one did.basis did.there ready did.rests steady.good in
     steady_acted old new (decided w id number did.basis (Some did.one)) good.0 place before after there (kept_id old.registry before after old.turn turn number made h) did.city agents good.1
     (decided_answers w steady.past id number did.one did.basis did.there did.rests steady.good steady.answers)
     (decided_among (is_here old.agents) w steady.past id number did.one did.basis (here_at old.agents id place is) did.there did.rests steady.good steady.among)
     steady
-  where
-    is_ready_of : (one : OpenGather) → is_due (Some one) ≡ true → is_ready (Some one) ≡ true
-    is_ready_of one due = either (is_ready (Some one)) due
-      where
-        either : (b : Bool) → (b && not one.lent) ≡ true → b ≡ true
-        either true h = refl
-        either false h = absurd (cc)

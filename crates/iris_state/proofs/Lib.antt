@@ -1,10 +1,16 @@
 pub mod AgentEvents
 pub mod AgentTables
+pub mod ArrivalHere
+pub mod ArrivalSteps
+pub mod Arriving
 pub mod ChangedAgent
 pub mod Changes
 pub mod ClientPosts
+pub mod Committing
 pub mod DecidedAt
 pub mod Following
+pub mod Giving
+pub mod Judging
 pub mod MayHere
 pub mod QuietEvents
 pub mod SteadyCities

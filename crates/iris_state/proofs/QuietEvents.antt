@@ -14,7 +14,7 @@ use Rattle.iris_agent.specs.Jobs.{with_lent_at}
 use Rattle.iris_agent.specs.Tables.{Holdings, Tables, tables_of, with_cache, with_gather}
 use Rattle.iris_protocol.specs.Table.{AgentId}
 use Rattle.iris_runs.specs.Happenings.{lent_there, evicted_at}
-use Rattle.iris_runs.specs.Worlds.{World, with_agent}
+use Rattle.iris_runs.specs.Worlds.{with_agent}
 use Rattle.iris_runs.proofs.AmongCities.{evicted_among, lent_among}
 use Rattle.iris_runs.proofs.StayQuiet.{evicted_good, lent_good, back_good}
 use Rattle.iris_state.specs.Agents.{has_id, is_here, place_in}
@@ -37,7 +37,7 @@ one_changed old new id place before after is there same rest =
 
 -- ---- lent gathers
 
-same_id : (before after : Holdings) (number : ℕ) (lent : Bool) → tables_of after ≡ with_lent_at before number lent → after.id ≡ before.id
+pub same_id : (before after : Holdings) (number : ℕ) (lent : Bool) → tables_of after ≡ with_lent_at before number lent → after.id ≡ before.id
 unfolding tables_of
 same_id before after number lent is = ap (λ (t : Tables). t.id) is
 
@@ -67,6 +67,18 @@ steady_lent old new id place number before after is there due tables rest steady
     steady_acted old new (lent_there w id number true) good.0 place before after there (same_id before after number true tables) (lent_one old new id place number true before after is there tables rest)
     (ap (λ (o : Whole). o.agents) rest) good.1 steady.answers (lent_among (is_here old.agents) w id number true steady.among) steady
 
+pub steady_back_at : (old new : Whole) (id : AgentId) (place number : ℕ) (before after : Holdings)
+    → slice_get old.agents place ≡ Some before
+    → after.id ≡ before.id
+    → world_of new ≡ lent_there (world_of old) id number false
+    → new.agents ≡ slice_set old.agents place after
+    → IsSteady old
+    → IsSteady new
+steady_back_at old new id place number before after there same back agents steady =
+    let w = world_of old in
+    let good = back_good w steady.past id number steady.good in
+    steady_acted old new (lent_there w id number false) good.0 place before after there same back agents good.1 steady.answers (lent_among (is_here old.agents) w id number false steady.among) steady
+
 pub steady_back : (old new : Whole) (id : AgentId) (place number : ℕ) (before after : Holdings)
     → place_in id old.agents ≡ Some place
     → slice_get old.agents place ≡ Some before
@@ -75,10 +87,7 @@ pub steady_back : (old new : Whole) (id : AgentId) (place number : ℕ) (before 
     → IsSteady old
     → IsSteady new
 steady_back old new id place number before after is there tables rest steady =
-    let w = world_of old in
-    let good = back_good w steady.past id number steady.good in
-    steady_acted old new (lent_there w id number false) good.0 place before after there (same_id before after number false tables) (lent_one old new id place number false before after is there tables rest)
-    (ap (λ (o : Whole). o.agents) rest) good.1 steady.answers (lent_among (is_here old.agents) w id number false steady.among) steady
+    steady_back_at old new id place number before after there (same_id before after number false tables) (lent_one old new id place number false before after is there tables rest) (ap (λ (o : Whole). o.agents) rest) steady
 
 -- ---- evicted copies
 
@@ -162,3 +171,9 @@ here_none (x ∷ hs) id is = either (λ at. here_none hs id at) (has_id id x) is
     either : (place_in id hs ≡ None → is_here hs id ≡ false) → (b : Bool) → (if b then Some 0 else option_map suc (place_in id hs)) ≡ None → (b || is_here hs id) ≡ false
     either go true is = absurd (cc)
     either go false is = later go (place_in id hs) refl is
+
+-- so it is found
+pub missing_here : (old now : Whole) (id : AgentId) (slice : List Holdings) (place : Option ℕ) → old ≡ now → slice ≡ old.agents → place ≡ place_in id slice → place ≡ None → is_here now.agents id ≡ true → ⊥
+missing_here old now id slice place same agents found none here =
+    let nobody = here_none now.agents id (ap (λ (o : Whole). place_in id o.agents) (sym same) ∙ ap (place_in id) (sym agents) ∙ sym found ∙ none) in
+    absurd (cc)

@@ -1,5 +1,5 @@
 -- A steady city stays one as requests are made and time passes.
-use Rattle.std.proofs.Common.{◌≡◌, ℕ, suc, ◌≤◌, List, Option, Some, refl, sym, ap, ◌∙◌, subst}
+use Rattle.std.proofs.Common.{◌≡◌, ℕ, ◌≤◌, List, sym, ◌∙◌, subst}
 use Rattle.std.specs.Prelude.{IsSome}
 use Rattle.iris_base.specs.declared.name.Label.{Label}
 use Rattle.iris_tree.specs.declared.change.Change.{Change}

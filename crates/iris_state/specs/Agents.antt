@@ -1,7 +1,6 @@
 -- The agents of a city, by their ids.
 use Rattle.std.specs.Prelude.{ℕ, suc, Bool, false, if◌then◌else◌, List, [], ◌∷◌, Option, Some, None, option_map, is_some}
 use Rattle.std.specs.List.{list_any}
-use Rattle.iris_base.specs.declared.name.Label.{Label}
 use Rattle.iris_tree.specs.Universe.{Node, label_of, node_at}
 use Rattle.iris_migrate.specs.Titles.{Seat, empty_seat, with_last}
 use Rattle.iris_agent.specs.Starts.{empty_cache}
@@ -40,3 +39,8 @@ agent_by document (h ∷ hs) id = if has_id id h then tables_of h else agent_by 
 abbrev pub place_in : AgentId → List Holdings → Option ℕ
 place_in id [] = None
 place_in id (h ∷ hs) = if has_id id h then Some 0 else option_map suc (place_in id hs)
+
+-- what the agent of that id among these holds, if there is one
+abbrev pub held_by : AgentId → List Holdings → Option Holdings
+held_by id [] = None
+held_by id (h ∷ hs) = if has_id id h then Some h else held_by id hs

@@ -3,8 +3,10 @@
 #![tactic(auto)]
 
 mod agents;
+mod arrivals;
 mod copies;
 mod gathers;
+mod moves;
 mod posting;
 mod state;
 

@@ -1,4 +1,4 @@
-use Rattle.std.proofs.Common.{refl, ap, ◌∙◌}
+use Rattle.std.proofs.Common.{ap, ◌∙◌}
 use Rattle.iris_runs.specs.Happenings.{advanced}
 use Rattle.iris_state.specs.Whole.{Whole, world_of}
 use Rattle.iris_state.proofs.Changes.{advanced_one}

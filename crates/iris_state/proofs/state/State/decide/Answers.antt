@@ -1,6 +1,4 @@
-use Rattle.std.proofs.Common.{◌≡◌, ◌≤◌, ℕ, true, List, Option, Some, None, arith, refl, sym, ap, ◌∙◌, subst}
-use Rattle.std.specs.Prelude.{slice_get}
-use Rattle.iris_agent.specs.Tables.{Holdings}
+use Rattle.std.proofs.Common.{◌≡◌, None, arith, refl, sym, ap, ◌∙◌, subst}
 use Rattle.iris_gather.specs.OpenGathers.{is_due}
 use Rattle.iris_state.specs.Agents.{place_in}
 use Rattle.iris_state.specs.City.{IsSteady}
@@ -10,7 +8,7 @@ use Rattle.iris_state.specs.contracts.state.State.{the_view}
 use Rattle.iris_state.proofs.AgentEvents.{on_err, unacted}
 use Rattle.iris_state.proofs.AgentTables.{found_agent}
 use Rattle.iris_state.proofs.ChangedAgent.{set_there}
-use Rattle.iris_state.proofs.DecidedAt.{due_here, due_there, agent_there, decided_at, decided_room, steady_decided}
+use Rattle.iris_state.proofs.DecidedAt.{due_here, due_there, ready_of_due, agent_there, decided_at, decided_room, steady_decided}
 use Rattle.iris_state.proofs.MayHere.{free_asks_here, starts_here, routed_here}
 use Rattle.iris_state.proofs.SteadyCities.{steady_same}
 use Rattle.iris_state.proofs.state.State.decide.Goals as goal
@@ -105,4 +103,4 @@ returns-clause-steady c =
     let due = ap (λ (o : Whole). is_due (((world_of o).agent c.args.id).gather c.args.gather)) c.self.view_is ∙ c.requires.due in
     let did = subst (λ (o : Whole). HasDecidedAt (world_of o) c.args.id c.args.gather (world_of c.follow.new.self) c.follow.result.items) (sym c.self.view_is) (returns-clause-decided c) in
     steady_decided (the_view c.self.inside) c.follow.new.self c.args.id c.in-Some.at c.args.gather c.index_mut.result.now c.decide.new.self c.in_ok-steps.steps.items c.decide.new.turn c.follow.result.items found.0 found.1
-    c.in_ok-steps.ensures.decided due (ap (λ (o : Whole). o.agents) c.follow.ensures.rest) did steady
+    c.in_ok-steps.ensures.decided (ready_of_due (((world_of (the_view c.self.inside)).agent c.args.id).gather c.args.gather) due) (ap (λ (o : Whole). o.agents) c.follow.ensures.rest) did steady

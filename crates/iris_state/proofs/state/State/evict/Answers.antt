@@ -1,25 +1,19 @@
-use Rattle.std.proofs.Common.{◌≡◌, true, false, None, refl, sym, ap, ◌∙◌, subst}
+use Rattle.std.proofs.Common.{refl, sym, ap, ◌∙◌, subst}
 use Rattle.std.proofs.lemmas.Result.{on_ok_weaker}
 use Rattle.iris_fragment.specs.Changes.{evict_answer, has_child}
 use Rattle.iris_fragment.specs.Contents.{status}
 use Rattle.iris_agent.specs.Tables.{Tables, tables_of}
 use Rattle.iris_runs.specs.Happenings.{evicted_at}
-use Rattle.iris_state.specs.Agents.{is_here, place_in}
 use Rattle.iris_state.specs.City.{IsSteady}
 use Rattle.iris_state.specs.Whole.{Whole, world_of}
 use Rattle.iris_state.specs.contracts.state.State.{the_view}
 use Rattle.iris_state.proofs.AgentTables.{found_agent}
 use Rattle.iris_state.proofs.DecidedAt.{agent_there}
-use Rattle.iris_state.proofs.QuietEvents.{evicted_one, steady_evict, here_none}
+use Rattle.iris_state.proofs.QuietEvents.{evicted_one, steady_evict, missing_here}
 use Rattle.iris_state.proofs.state.State.evict.Goals as goal
 
 pub unreachable-requires : goal.unreachable-requires
-unreachable-requires c =
-    let none : place_in c.args.id c.args.self.now.agents ≡ None =
-    ap (λ (o : Whole). place_in c.args.id o.agents) (sym c.self.view_is) ∙ ap (place_in c.args.id) (sym c.deref.ensures.value) ∙ sym c.place_of.ensures.place ∙ c.in_default.is in
-    let no = here_none c.args.self.now.agents c.args.id none in
-    let here = c.requires.here in
-    cc
+unreachable-requires c = missing_here (the_view c.self.inside) c.args.self.now c.args.id c.deref.result.now c.place_of.result c.self.view_is c.deref.ensures.value c.place_of.ensures.place c.in_default.is c.requires.here
 
 pub returns-clause-answer : goal.returns-clause-answer
 unfolding tables_of

@@ -4,7 +4,7 @@ use Rattle.std.proofs.lemmas.List.Elements.{All-head}
 use Rattle.iris_outbox.specs.Outbox.{Outgoing}
 use Rattle.iris_runs.specs.Worlds.{stepped}
 use Rattle.iris_state.specs.Whole.{IsOf, world_of}
-use Rattle.iris_state.proofs.Following.{AreMade, made_more}
+use Rattle.iris_state.proofs.Following.{made_more}
 use Rattle.iris_state.proofs.state.State.follow.Goals as goal
 
 nothing_left : {X : Type 0} (l : List X) → length l ≡ 0 → l ≡ []

@@ -1,20 +1,14 @@
-use Rattle.std.proofs.Common.{◌≡◌, true, false, None, refl, sym, ap, ◌∙◌, subst}
+use Rattle.std.proofs.Common.{false, refl, sym, ap, ◌∙◌, subst}
 use Rattle.iris_runs.specs.Happenings.{lent_there}
-use Rattle.iris_state.specs.Agents.{is_here, place_in}
 use Rattle.iris_state.specs.City.{IsSteady}
 use Rattle.iris_state.specs.Whole.{Whole, world_of}
 use Rattle.iris_state.specs.contracts.state.State.{the_view}
 use Rattle.iris_state.proofs.AgentTables.{found_agent}
-use Rattle.iris_state.proofs.QuietEvents.{lent_one, steady_back, here_none}
+use Rattle.iris_state.proofs.QuietEvents.{lent_one, steady_back, missing_here}
 use Rattle.iris_state.proofs.state.State.give_back.Goals as goal
 
 pub unreachable-requires : goal.unreachable-requires
-unreachable-requires c =
-    let none : place_in c.args.id c.args.self.now.agents ≡ None =
-    ap (λ (o : Whole). place_in c.args.id o.agents) (sym c.self.view_is) ∙ ap (place_in c.args.id) (sym c.deref.ensures.value) ∙ sym c.place_of.ensures.place ∙ c.in_default.is in
-    let no = here_none c.args.self.now.agents c.args.id none in
-    let here = c.requires.here in
-    cc
+unreachable-requires c = missing_here (the_view c.self.inside) c.args.self.now c.args.id c.deref.result.now c.place_of.result c.self.view_is c.deref.ensures.value c.place_of.ensures.place c.in_default.is c.requires.here
 
 pub returns-clause-city : goal.returns-clause-city
 returns-clause-city c =

@@ -1,7 +1,6 @@
-use Rattle.std.proofs.Common.{◌≡◌, true, false, None, refl, sym, ap, ◌∙◌, subst}
+use Rattle.std.proofs.Common.{◌≡◌, true, None, refl, sym, ap, ◌∙◌, subst}
 use Rattle.std.specs.Option.{option_map}
 use Rattle.std.proofs.lemmas.Result.{on_ok_weaker, IfOk-weaker}
-use Rattle.iris_agent.specs.declared.job.Job.{Job}
 use Rattle.iris_agent.specs.Tables.{Tables, tables_of}
 use Rattle.iris_gather.specs.Laid.{laid}
 use Rattle.iris_gather.specs.OpenGathers.{is_due}

@@ -1,6 +1,6 @@
 use Rattle.std.proofs.Common.{refl, sym, ap, ◌∙◌}
 use Rattle.iris_agent.specs.declared.step.Step.{Step}
-use Rattle.iris_runs.specs.Worlds.{World, posting, stepped}
+use Rattle.iris_runs.specs.Worlds.{posting, stepped}
 use Rattle.iris_state.specs.Whole.{Whole, world_of}
 use Rattle.iris_state.proofs.Changes.{posted_one}
 use Rattle.iris_state.proofs.state.State.make.Goals as goal
