@@ -9,8 +9,10 @@ pub mod ClientPosts
 pub mod Committing
 pub mod DecidedAt
 pub mod Following
+pub mod Forgotten
 pub mod Giving
 pub mod Judging
 pub mod MayHere
+pub mod Naming
 pub mod QuietEvents
 pub mod SteadyCities

@@ -1,5 +1,5 @@
 -- What happened in a city, as contracts state it: the event, and the lines that tell of it.
-use Rattle.std.specs.Prelude.{◌≡◌, ℕ, Bool, true, false, List, Option, Some, IfSome, fold, slice_get, option_map, if◌then◌else◌}
+use Rattle.std.specs.Prelude.{◌≡◌, ◌⊎◌, ℕ, ◌<◌, ◌^◌, Bool, true, false, List, [], ◌∷◌, Option, Some, IfSome, MatchBool, fold, slice_get, option_map, if◌then◌else◌}
 use Rattle.iris_base.specs.declared.name.Label.{Label}
 use Rattle.iris_json.specs.declared.out.Out.{Out}
 use Rattle.iris_book.specs.Book.{with_entry}
@@ -20,13 +20,14 @@ use Rattle.iris_agent.specs.Events.{offered}
 use Rattle.iris_agent.specs.Gives.{gives}
 use Rattle.iris_agent.specs.Handled.{Handled, only_change}
 use Rattle.iris_agent.specs.Outside.{Seen, KeptEntries, HasKept}
-use Rattle.iris_agent.specs.Tables.{Holdings}
+use Rattle.iris_agent.specs.NamedAsks.{NamesAsk, NamesNoAsk}
+use Rattle.iris_agent.specs.Tables.{Holdings, is_among}
 use Rattle.iris_outbox.specs.Lines.{lines_of}
 use Rattle.iris_protocol.specs.Program.{Tells}
 use Rattle.iris_protocol.specs.Table.{AgentId}
 use Rattle.iris_protocol.specs.World as model
 use Rattle.iris_runs.specs.Alike.{IsWaitedFor}
-use Rattle.iris_runs.specs.Happenings.{is_over, delivered, interrupted, decided, decision_at, lent_there, given, move_of}
+use Rattle.iris_runs.specs.Happenings.{is_over, delivered, interrupted, decided, decision_at, lent_there, given, move_of, forgotten}
 use Rattle.iris_runs.specs.Letters.{agent_of, letter_of}
 use Rattle.iris_runs.specs.Worlds.{Sent, World, owner_of}
 
@@ -103,3 +104,26 @@ pub record HasGiven (w : World) (name : List Label) (to : AgentId) (new : World)
   pub city : new ≡ given w name to
   pub lines_are : lines ≡ lines_of w.posts w.history (giving w name to).steps
   pub row : KeptEntries before told (giving w name to).entries
+
+-- ---- what is forgotten
+
+-- one of these agents names the ask, or none does
+abbrev pub IsNamed : List Holdings → ℕ → Type 0
+IsNamed [] ask = ⊥
+IsNamed (h ∷ hs) ask = NamesAsk h.titles h.gathers ask ⊎ IsNamed hs ask
+
+abbrev pub IsUnnamed : List Holdings → ℕ → Type 0
+IsUnnamed [] ask = Unit {0}
+IsUnnamed (h ∷ hs) ask = NamesNoAsk h.titles h.gathers ask × IsUnnamed hs ask
+
+-- Of the asks that an agent met it knows those still that one of these agents names, and no other.
+pub record HasForgottenAsks (hs : List Holdings) (old new : Holdings) : Type 0 where
+  pub met : (ask : ℕ) → ask < 2 ^ 64 → is_among old.asked ask ≡ true → MatchBool (is_among new.asked ask) (IsNamed hs ask) (IsUnnamed hs ask)
+  pub others : (ask : ℕ) → is_among old.asked ask ≡ false → is_among new.asked ask ≡ false
+  pub rest : new ≡ record old { asked = new.asked }
+
+-- A city of these agents forgot: of the asks that its agents met just those stay that one of them names.
+pub record HasForgotten (hs : List Holdings) (w new : World) : Type 0 where
+  pub stays : AgentId → ℕ → Bool
+  pub named : (a : AgentId) (ask : ℕ) → (w.agent a).asked ask ≡ true → MatchBool (stays a ask) (IsNamed hs ask) (IsUnnamed hs ask)
+  pub city : new ≡ forgotten w stays

@@ -5,6 +5,7 @@
 mod agents;
 mod arrivals;
 mod copies;
+mod forgetting;
 mod gathers;
 mod moves;
 mod posting;
