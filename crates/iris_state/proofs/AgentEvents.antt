@@ -103,3 +103,7 @@ steady_acted old new w past place before after there same city agents good answe
     steady_of new w (slice_set old.agents place after) past city agents good answers
     (subst (λ (here : AgentId → Bool). AreAmong here w) (sym (same_here old.agents place before after there same)) among)
     (own_places_set old.agents place before after there same steady.ids)
+
+-- there are the same agents
+pub here_acted : (old now : Whole) (agents : List Holdings) (place : ℕ) (before after : Holdings) → old ≡ now → slice_get old.agents place ≡ Some before → after.id ≡ before.id → agents ≡ slice_set old.agents place after → is_here agents ≡ is_here now.agents
+here_acted old now agents place before after same there id set = ap is_here set ∙ same_here old.agents place before after there id ∙ ap (λ (o : Whole). is_here o.agents) same

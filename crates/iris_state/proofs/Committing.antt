@@ -67,6 +67,11 @@ refused_at old mid id place done before after Memory is there same turn history 
     let now = ap (λ (o : Whole). o.agents) rest in
     unacted old mid (rest ∙ ap (λ (hs : List Holdings). record old { agents = hs; turn = mid.turn; book = mid.book }) (sym now)) (now ∙ agents) turn history
 
+-- the agent keeps its id
+pub refused_id : (now : ℕ) (done : Done) (before after : Holdings) (e : CommitError) → Refuses before after now done e → after.id ≡ before.id
+refused_id now done before after (Moved name) refuses = same_id before after done.job.gather false refuses.1
+refused_id now done before after Memory same = ap (λ (h : Holdings). h.id) same
+
 -- of two cities that are equal the same is told
 pub refused_same : (old now : Whole) (mid : World) (id : AgentId) (done : Done) (e : CommitError) → old ≡ now → HasRefused (world_of old) (held_by id old.agents) id done mid e → HasRefused (world_of now) (held_by id now.agents) id done mid e
 refused_same old now mid id done e same h = subst (λ (o : Whole). HasRefused (world_of o) (held_by id o.agents) id done mid e) same h

@@ -234,6 +234,9 @@ same_ids hs (x ∷ xs) (y ∷ ys) a all =
     let same = ap (λ (h : Holdings). has_id a h) all.0.rest in
     ((λ i. same i || rest.0 i), (λ i. if same i then Some 0 else option_map suc (rest.1 i)))
 
+pub here_forgot : (old now : Whole) (news : List Holdings) → old ≡ now → AllZip (HasForgottenAsks old.agents) old.agents news → is_here news ≡ is_here now.agents
+here_forgot old now news same all = (λ i a. (same_ids old.agents old.agents news a all).0 i) ∙ ap (λ (o : Whole). is_here o.agents) same
+
 was_at : (hs olds news : List Holdings) (place : ℕ) (h : Holdings) → AllZip (HasForgottenAsks hs) olds news → slice_get news place ≡ Some h → (old : Holdings) × ((slice_get olds place ≡ Some old) × (h.id ≡ old.id))
 was_at hs [] [] place h all there = absurd (cc)
 was_at hs [] (y ∷ ys) place h all there = absurd all

@@ -159,6 +159,15 @@ steady_evict (Ok left) old new id place name kept before after is there answer h
     steady_evicted old new id place name before after is there (was_complete (status before.cache.contents name) kept left answer) has rest steady
 steady_evict (Err e) old new id place name kept before after is there answer has same rest steady = steady_kept old new place before after there same rest steady
 
+-- the agent keeps its id
+pub job_id : {T E : Type 0} (r : Result T E) (number : ℕ) (before after : Holdings) → OnOk r (tables_of after ≡ with_lent_at before number true) → OnErr r (after ≡ before) → after.id ≡ before.id
+job_id (Ok job) number before after lent same = same_id before after number true lent
+job_id (Err e) number before after lent same = ap (λ (h : Holdings). h.id) same
+
+pub evict_id : {T E : Type 0} (r : Result T E) (name : List Label) (before after : Holdings) → OnOk r (HasCache before after (evicted_from before.cache name)) → OnErr r (after ≡ before) → after.id ≡ before.id
+evict_id (Ok left) name before after has same = ap (λ (h : Holdings). h.id) has
+evict_id (Err e) name before after has same = ap (λ (h : Holdings). h.id) same
+
 -- an agent that is here has a place
 pub here_none : (hs : List Holdings) (id : AgentId) → place_in id hs ≡ None → is_here hs id ≡ false
 here_none [] id is = refl

@@ -54,10 +54,11 @@ HasRefused w held id done new Memory = new ≡ w
 
 -- ---- arrivals
 
--- an open gather of one of these agents is for that request, or none is
+-- an open gather of one of these agents is for that request
 abbrev pub IsServed : List Holdings → ℕ → Type 0
 IsServed hs request = (place : ℕ) × (h : Holdings) × ((slice_get hs place ≡ Some h) × AnyGather (serves_request request) h.gathers)
 
+-- no open gather of these agents is for that request
 abbrev pub IsUnserved : List Holdings → ℕ → Type 0
 IsUnserved hs request = (place : ℕ) (h : Holdings) → slice_get hs place ≡ Some h → NoGather (serves_request request) h.gathers
 
@@ -107,11 +108,12 @@ pub record HasGiven (w : World) (name : List Label) (to : AgentId) (new : World)
 
 -- ---- what is forgotten
 
--- one of these agents names the ask, or none does
+-- one of these agents names the ask
 abbrev pub IsNamed : List Holdings → ℕ → Type 0
 IsNamed [] ask = ⊥
 IsNamed (h ∷ hs) ask = NamesAsk h.titles h.gathers ask ⊎ IsNamed hs ask
 
+-- none of these agents names the ask
 abbrev pub IsUnnamed : List Holdings → ℕ → Type 0
 IsUnnamed [] ask = Unit {0}
 IsUnnamed (h ∷ hs) ask = NamesNoAsk h.titles h.gathers ask × IsUnnamed hs ask

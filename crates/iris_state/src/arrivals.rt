@@ -2,6 +2,7 @@
 ghost use Rattle.std.specs.Prelude.{◌≡◌, ◌≤◌, IsSome, IfSome, MatchBool, IfOk, OnErr};
 ghost use Rattle.iris_posts.specs.Posts.{post_at};
 ghost use Rattle.iris_agent.specs.Outside.{KeptNothing, seen};
+ghost use Rattle.iris_state.specs.Agents.{is_here};
 ghost use Rattle.iris_state.specs.City.{HaveOwnPlaces, IsSteady};
 ghost use Rattle.iris_state.specs.Events.{IsServed, IsUnserved, IsJudged, HasArrivedAt, IsInterrupted};
 ghost use Rattle.iris_state.specs.Whole.{world_of};
@@ -68,6 +69,7 @@ impl State {
         ensures err { OnErr result (IsInterrupted (world_of self.old) post (world_of self.new)) }
         ensures unkept { OnErr result (KeptNothing (seen (P.rows keeper.old) (P.gives keeper.old) (P.faults keeper.old)) (seen (P.rows keeper.new) (P.gives keeper.new) (P.faults keeper.new))) }
         ensures later { P.faults keeper.old ≤ P.faults keeper.new }
+        ensures here { is_here self.new.agents ≡ is_here self.old.agents }
         ensures steady { IsSteady self.new }
     {
         if self.is_post_over(post) {

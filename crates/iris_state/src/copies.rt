@@ -22,6 +22,7 @@ impl State {
         ensures answer { result ≡ evict_answer (status ((world_of self.old).agent id).cache.contents name.now) (has_child ((world_of self.old).agent id).cache.contents.nodes name.now) }
         ensures city { OnOk result (world_of self.new ≡ evicted_at (world_of self.old) id name.now) }
         ensures err { OnErr result (world_of self.new ≡ world_of self.old) }
+        ensures here { is_here self.new.agents ≡ is_here self.old.agents }
         ensures steady { IsSteady self.new }
     {
         let Some(at) = place_of(&self.agents, id) else {

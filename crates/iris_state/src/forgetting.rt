@@ -1,6 +1,7 @@
 //! What a city forgets.
 ghost use Rattle.std.specs.Prelude.{◌≡◌, ◌+◌, length, MatchBool};
 ghost use Rattle.std.specs.List.{AllZip};
+ghost use Rattle.iris_state.specs.Agents.{is_here};
 ghost use Rattle.iris_state.specs.City.{IsSteady};
 ghost use Rattle.iris_state.specs.Events.{IsNamed, IsUnnamed, HasForgottenAsks, HasForgotten};
 ghost use Rattle.iris_state.specs.Whole.{world_of};
@@ -52,6 +53,7 @@ impl State {
         requires steady { IsSteady self.old }
         ensures forgot { HasForgotten self.old.agents (world_of self.old) (world_of self.new) }
         ensures dropped { result + length self.new.outbox.posts.kept ≡ length self.old.outbox.posts.kept }
+        ensures here { is_here self.new.agents ≡ is_here self.old.agents }
         ensures steady { IsSteady self.new }
     {
         // The numbers of asks are the machine's: a step of proofs alone.

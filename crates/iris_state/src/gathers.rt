@@ -25,6 +25,7 @@ impl State {
         requires due { is_due (((world_of self.old).agent id).gather gather) ≡ true }
         ensures decided { IfOk result (λ lines. HasDecidedAt (world_of self.old) id gather (world_of self.new) lines.items) }
         ensures err { OnErr result (world_of self.new ≡ world_of self.old) }
+        ensures here { is_here self.new.agents ≡ is_here self.old.agents }
         ensures steady { IsSteady self.new }
     {
         let Some(at) = place_of(&self.agents, id) else {
@@ -46,6 +47,7 @@ impl State {
         ensures job { IfOk result (λ job. job_at (world_of self.old) id gather ≡ Some job) }
         ensures city { OnOk result (world_of self.new ≡ lent_there (world_of self.old) id gather true) }
         ensures err { OnErr result (world_of self.new ≡ world_of self.old) }
+        ensures here { is_here self.new.agents ≡ is_here self.old.agents }
         ensures steady { IsSteady self.new }
     {
         let Some(at) = place_of(&self.agents, id) else {
@@ -64,6 +66,7 @@ impl State {
         ensures local { OnOk result (IfSome (held_by id self.old.agents) (λ h. MayCommit h self.old.turn.now done.now)) }
         ensures decided { IfOk result (λ lines. HasDecidedAt (world_of self.old) id done.now.job.gather (world_of self.new) lines.items) }
         ensures err { IfErr result (HasRefused (world_of self.old) (held_by id self.old.agents) id done.now (world_of self.new)) }
+        ensures here { is_here self.new.agents ≡ is_here self.old.agents }
         ensures steady { IsSteady self.new }
     {
         let Some(at) = place_of(&self.agents, id) else {
@@ -83,6 +86,7 @@ impl State {
         requires steady { IsSteady self.old }
         requires here { is_here self.old.agents id ≡ true }
         ensures city { world_of self.new ≡ lent_there (world_of self.old) id gather false }
+        ensures here { is_here self.new.agents ≡ is_here self.old.agents }
         ensures steady { IsSteady self.new }
     {
         let Some(at) = place_of(&self.agents, id) else {

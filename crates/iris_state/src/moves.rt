@@ -95,6 +95,7 @@ impl State {
         ensures err { OnErr result (world_of self.new ≡ world_of self.old) }
         ensures unkept { OnErr result (KeptNothing (seen (P.rows keeper.old) (P.gives keeper.old) (P.faults keeper.old)) (seen (P.rows keeper.new) (P.gives keeper.new) (P.faults keeper.new))) }
         ensures later { P.faults keeper.old ≤ P.faults keeper.new }
+        ensures here { is_here self.new.agents ≡ is_here self.old.agents }
         ensures steady { IsSteady self.new }
     {
         let at = self.place_of_owner(name);

@@ -7,7 +7,7 @@ use Rattle.iris_state.specs.Agents.{place_in}
 use Rattle.iris_state.specs.City.{IsSteady}
 use Rattle.iris_state.specs.Whole.{Whole, sent_of}
 use Rattle.iris_state.specs.contracts.state.State.{the_view}
-use Rattle.iris_state.proofs.AgentEvents.{on_err, unacted}
+use Rattle.iris_state.proofs.AgentEvents.{here_acted, on_err, unacted}
 use Rattle.iris_state.proofs.ArrivalHere.{sent_there, addressee_here, arrives_there, free_there, may_arrive_there, book_there, times_there, arrived_answers, arrived_requests}
 use Rattle.iris_state.proofs.Arriving.{marked_ready, arrived_ready, arrived_at, kept_id, steady_arrived, steady_over, interrupted_at, steady_interrupted, untouched_at, over_there, back_id, arrived_same, interrupted_same}
 use Rattle.iris_state.proofs.Changes.{marked_one}
@@ -134,3 +134,19 @@ returns-clause-steady g c =
     steady_arrived old c.follow.new.self c.args.post c.in-Some-place_of.at c.index_mut.result.now c.arrive.new.self c.follow.result.items _ _ a.there
     (kept_id c.index_mut.result.now c.arrive.new.self old c.arrive.new.turn c.in-Some.sent.now.message c.in_ok-steps.steps.items c.reserve.new.self c.arrive.new.book _ _ _ c.in_ok-steps.ensures.arrived)
     (ap (λ (o : Whole). o.agents) c.follow.ensures.rest) did a.steady
+
+-- ---- its agents
+
+pub returns-in_err-steps-clause-here : goal.returns-in_err-steps-clause-here
+returns-in_err-steps-clause-here g c =
+    let a = arrives_there (the_view c.self.inside) c.args.self.now c.args.post c.in-Some-place_of.at c.deref.result.now c.index_mut.result.now c.posts.result.now (option_copied c.get.result) c.in-Some.sent.now c.is_post_over.result
+    c.self.view_is c.deref.ensures.value c.in-Some-place_of.ensures.place c.in-Some-place_of.ensures.within c.index_mut.ensures.value c.posts.ensures c.get.ensures (ap option_copied c.in-Some.is) c.if-is_post_over.false c.is_post_over.ensures c.requires.steady in
+    here_acted (the_view c.self.inside) c.args.self.now _ c.in-Some-place_of.at c.index_mut.result.now c.arrive.new.self c.self.view_is a.there (back_id c.index_mut.result.now c.arrive.new.self c.in-Some.sent.now.message c.in_err-steps.ensures.err) refl
+
+pub returns-clause-here : goal.returns-clause-here
+returns-clause-here g c =
+    let a = arrives_there (the_view c.self.inside) c.args.self.now c.args.post c.in-Some-place_of.at c.deref.result.now c.index_mut.result.now c.posts.result.now (option_copied c.get.result) c.in-Some.sent.now c.is_post_over.result
+    c.self.view_is c.deref.ensures.value c.in-Some-place_of.ensures.place c.in-Some-place_of.ensures.within c.index_mut.ensures.value c.posts.ensures c.get.ensures (ap option_copied c.in-Some.is) c.if-is_post_over.false c.is_post_over.ensures c.requires.steady in
+    here_acted (the_view c.self.inside) c.args.self.now _ c.in-Some-place_of.at c.index_mut.result.now c.arrive.new.self c.self.view_is a.there
+    (kept_id c.index_mut.result.now c.arrive.new.self (the_view c.self.inside) c.arrive.new.turn c.in-Some.sent.now.message c.in_ok-steps.steps.items c.reserve.new.self c.arrive.new.book _ _ _ c.in_ok-steps.ensures.arrived)
+    (ap (λ (o : Whole). o.agents) c.follow.ensures.rest)

@@ -8,10 +8,10 @@ use Rattle.iris_state.specs.City.{IsSteady}
 use Rattle.iris_state.specs.Events.{HasDecidedAt, HasRefused}
 use Rattle.iris_state.specs.Whole.{Whole, world_of}
 use Rattle.iris_state.specs.contracts.state.State.{the_view}
-use Rattle.iris_state.proofs.AgentEvents.{if_err, unacted}
+use Rattle.iris_state.proofs.AgentEvents.{here_acted, if_err, unacted}
 use Rattle.iris_state.proofs.AgentTables.{found_agent}
-use Rattle.iris_state.proofs.Committing.{held_there, committed_ready, refused_at, refused_same, steady_refused}
-use Rattle.iris_state.proofs.DecidedAt.{agent_there, decided_at, decided_room, steady_decided}
+use Rattle.iris_state.proofs.Committing.{held_there, committed_ready, refused_at, refused_id, refused_same, steady_refused}
+use Rattle.iris_state.proofs.DecidedAt.{agent_there, decided_at, decided_room, kept_id, steady_decided}
 use Rattle.iris_state.proofs.MayHere.{free_asks_here, routed_here}
 use Rattle.iris_state.proofs.QuietEvents.{missing_here}
 use Rattle.iris_state.proofs.SteadyCities.{steady_same}
@@ -105,3 +105,14 @@ returns-clause-steady c =
     steady_decided (the_view c.self.inside) c.follow.new.self c.args.id c.in-Some.at c.args.done.now.job.gather c.index_mut.result.now c.commit.new.self c.in_ok-steps.steps.items c.commit.new.turn c.follow.result.items found.0 found.1
     c.in_ok-steps.ensures.decided (committed_ready (the_view c.self.inside) c.args.id c.in-Some.at c.args.done.now c.index_mut.result.now found.0 found.1 c.in_ok-steps.ensures.local) (ap (λ (o : Whole). o.agents) c.follow.ensures.rest) did
     steady
+
+pub returns-in_err-steps-clause-here : goal.returns-in_err-steps-clause-here
+returns-in_err-steps-clause-here c =
+    let found = found_agent c.self.inside.agents.items c.deref.result.now c.args.id c.in-Some.at c.index_mut.result.now c.deref.ensures.value c.in-Some.ensures.place c.in-Some.ensures.within c.index_mut.ensures.value in
+    here_acted (the_view c.self.inside) c.args.self.now _ c.in-Some.at c.index_mut.result.now c.commit.new.self c.self.view_is found.1
+    (refused_id c.self.inside.turn.now c.args.done.now c.index_mut.result.now c.commit.new.self c.in_err-steps.field-0.0 c.in_err-steps.ensures.err) refl
+
+pub returns-clause-here : goal.returns-clause-here
+returns-clause-here c =
+    let found = found_agent c.self.inside.agents.items c.deref.result.now c.args.id c.in-Some.at c.index_mut.result.now c.deref.ensures.value c.in-Some.ensures.place c.in-Some.ensures.within c.index_mut.ensures.value in
+    here_acted (the_view c.self.inside) c.args.self.now _ c.in-Some.at c.index_mut.result.now c.commit.new.self c.self.view_is found.1 (kept_id c.self.inside.registry c.index_mut.result.now c.commit.new.self c.self.inside.turn c.commit.new.turn c.args.done.now.job.gather c.in_ok-steps.steps.items c.in_ok-steps.ensures.decided) (ap (λ (o : Whole). o.agents) c.follow.ensures.rest)

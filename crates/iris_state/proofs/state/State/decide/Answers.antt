@@ -5,10 +5,10 @@ use Rattle.iris_state.specs.City.{IsSteady}
 use Rattle.iris_state.specs.Events.{HasDecidedAt}
 use Rattle.iris_state.specs.Whole.{Whole, world_of}
 use Rattle.iris_state.specs.contracts.state.State.{the_view}
-use Rattle.iris_state.proofs.AgentEvents.{on_err, unacted}
+use Rattle.iris_state.proofs.AgentEvents.{here_acted, on_err, unacted}
 use Rattle.iris_state.proofs.AgentTables.{found_agent}
 use Rattle.iris_state.proofs.ChangedAgent.{set_there}
-use Rattle.iris_state.proofs.DecidedAt.{due_here, due_there, ready_of_due, agent_there, decided_at, decided_room, steady_decided}
+use Rattle.iris_state.proofs.DecidedAt.{due_here, due_there, ready_of_due, agent_there, decided_at, decided_room, kept_id, steady_decided}
 use Rattle.iris_state.proofs.MayHere.{free_asks_here, starts_here, routed_here}
 use Rattle.iris_state.proofs.SteadyCities.{steady_same}
 use Rattle.iris_state.proofs.state.State.decide.Goals as goal
@@ -104,3 +104,11 @@ returns-clause-steady c =
     let did = subst (λ (o : Whole). HasDecidedAt (world_of o) c.args.id c.args.gather (world_of c.follow.new.self) c.follow.result.items) (sym c.self.view_is) (returns-clause-decided c) in
     steady_decided (the_view c.self.inside) c.follow.new.self c.args.id c.in-Some.at c.args.gather c.index_mut.result.now c.decide.new.self c.in_ok-steps.steps.items c.decide.new.turn c.follow.result.items found.0 found.1
     c.in_ok-steps.ensures.decided (ready_of_due (((world_of (the_view c.self.inside)).agent c.args.id).gather c.args.gather) due) (ap (λ (o : Whole). o.agents) c.follow.ensures.rest) did steady
+
+-- ---- its agents
+
+pub returns-clause-here : goal.returns-clause-here
+returns-clause-here c =
+    let found = found_agent c.self.inside.agents.items c.deref.result.now c.args.id c.in-Some.at c.index_mut.result.now c.deref.ensures.value c.in-Some.ensures.place c.in-Some.ensures.within c.index_mut.ensures.value in
+    here_acted (the_view c.self.inside) c.args.self.now _ c.in-Some.at c.index_mut.result.now c.decide.new.self c.self.view_is found.1
+    (kept_id c.self.inside.registry c.index_mut.result.now c.decide.new.self c.self.inside.turn c.decide.new.turn c.args.gather c.in_ok-steps.steps.items c.in_ok-steps.ensures.decided) (ap (λ (o : Whole). o.agents) c.follow.ensures.rest)

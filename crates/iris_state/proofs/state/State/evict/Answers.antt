@@ -9,7 +9,8 @@ use Rattle.iris_state.specs.Whole.{Whole, world_of}
 use Rattle.iris_state.specs.contracts.state.State.{the_view}
 use Rattle.iris_state.proofs.AgentTables.{found_agent}
 use Rattle.iris_state.proofs.DecidedAt.{agent_there}
-use Rattle.iris_state.proofs.QuietEvents.{evicted_one, steady_evict, missing_here}
+use Rattle.iris_state.proofs.QuietEvents.{evict_id, evicted_one, steady_evict, missing_here}
+use Rattle.iris_state.proofs.AgentEvents.{here_acted}
 use Rattle.iris_state.proofs.state.State.evict.Goals as goal
 
 pub unreachable-requires : goal.unreachable-requires
@@ -34,3 +35,8 @@ returns-clause-steady c =
     let found = found_agent c.self.inside.agents.items c.deref.result.now c.args.id c.in-Some.at c.index_mut.result.now c.deref.ensures.value c.in-Some.ensures.place c.in-Some.ensures.within c.index_mut.ensures.value in
     steady_evict c.evict.result (the_view c.self.inside) _ c.args.id c.in-Some.at c.args.name.now (has_child c.index_mut.result.now.cache.contents.nodes c.args.name.now) c.index_mut.result.now c.evict.new.self found.0 found.1 c.evict.ensures.answer c.evict.ensures.ok c.evict.ensures.err refl
     (subst IsSteady (sym c.self.view_is) c.requires.steady)
+
+pub returns-clause-here : goal.returns-clause-here
+returns-clause-here c =
+    let found = found_agent c.self.inside.agents.items c.deref.result.now c.args.id c.in-Some.at c.index_mut.result.now c.deref.ensures.value c.in-Some.ensures.place c.in-Some.ensures.within c.index_mut.ensures.value in
+    here_acted (the_view c.self.inside) c.args.self.now _ c.in-Some.at c.index_mut.result.now c.evict.new.self c.self.view_is found.1 (evict_id c.evict.result c.args.name.now c.index_mut.result.now c.evict.new.self c.evict.ensures.ok c.evict.ensures.err) refl

@@ -9,7 +9,7 @@ use Rattle.iris_outbox.specs.Outbox.{Readiness, IsMadeFor}
 use Rattle.iris_state.specs.City.{IsSteady}
 use Rattle.iris_state.specs.Whole.{Whole, world_of}
 use Rattle.iris_state.specs.contracts.state.State.{the_view}
-use Rattle.iris_state.proofs.AgentEvents.{on_err, unacted}
+use Rattle.iris_state.proofs.AgentEvents.{here_acted, on_err, unacted}
 use Rattle.iris_state.proofs.ChangedAgent.{set_there}
 use Rattle.iris_state.proofs.Giving.{gives_there, title_given, status_given, newer_given, registry_given, given_ready, given_answers_none, given_requests, gave_id, given_at, given_same, steady_given}
 use Rattle.iris_state.proofs.SteadyCities.{steady_same}
@@ -107,3 +107,12 @@ returns-clause-steady g c =
     let did = given_same c.args.self.now old c.args.name.now c.args.to _ c.follow.result.items _ _ (sym c.self.view_is) (returns-clause-gave g c) in
     steady_given old c.follow.new.self c.place_of_owner-at.result c.args.name.now c.args.to c.index_mut.result.now c.give.new.self c.follow.result.items _ _ a.there
     (gave_id c.index_mut.result.now c.give.new.self c.self.inside.turn c.push_reserved.new.self.items c.in_ok-moved.moved h) (ap (λ (o : Whole). o.agents) c.follow.ensures.rest) a.title a.owned a.here a.apart did a.steady
+
+pub returns-clause-here : goal.returns-clause-here
+returns-clause-here g c =
+    let a = gives_there (the_view c.self.inside) c.args.self.now c.args.name.now c.args.to c.place_of_owner-at.result c.index_mut.result.now c.in_ok-moved.moved c.self.view_is c.place_of_owner-at.ensures.place c.place_of_owner-at.ensures.within
+    c.index_mut.ensures.value c.in_ok-moved.ensures c.requires.node c.requires.owned c.requires.here c.requires.apart c.requires.steady in
+    let steps = c.push_reserved.ensures.items ∙ ap (λ (xs : List Step). xs ++ c.in_ok-step.step ∷ []) c.in_ok-steps.ensures.none in
+    let h = subst (λ (ss : List Step). Does c.give.new.self c.self.inside.turn ss (gives (tables_of c.index_mut.result.now) c.self.inside.turn c.in_ok-moved.moved)) (sym (steps)) c.in_ok-step.ensures.gave in
+    here_acted (the_view c.self.inside) c.args.self.now _ c.place_of_owner-at.result c.index_mut.result.now c.give.new.self c.self.view_is a.there
+    (gave_id c.index_mut.result.now c.give.new.self c.self.inside.turn c.push_reserved.new.self.items c.in_ok-moved.moved h) (ap (λ (o : Whole). o.agents) c.follow.ensures.rest)

@@ -12,7 +12,8 @@ use Rattle.iris_state.specs.Whole.{Whole, world_of}
 use Rattle.iris_state.specs.contracts.state.State.{the_view}
 use Rattle.iris_state.proofs.AgentTables.{found_agent}
 use Rattle.iris_state.proofs.DecidedAt.{due_here, due_there, agent_there}
-use Rattle.iris_state.proofs.QuietEvents.{lent_one, steady_job}
+use Rattle.iris_state.proofs.QuietEvents.{lent_one, job_id, steady_job}
+use Rattle.iris_state.proofs.AgentEvents.{here_acted}
 use Rattle.iris_state.proofs.state.State.job.Goals as goal
 
 pub unreachable-requires : goal.unreachable-requires
@@ -52,3 +53,8 @@ returns-clause-steady c =
     let found = found_agent c.self.inside.agents.items c.deref.result.now c.args.id c.in-Some.at c.index_mut.result.now c.deref.ensures.value c.in-Some.ensures.place c.in-Some.ensures.within c.index_mut.ensures.value in
     steady_job c.job.result (the_view c.self.inside) _ c.args.id c.in-Some.at c.args.gather c.index_mut.result.now c.job.new.self found.0 found.1
     (ap (λ (o : Whole). is_due (((world_of o).agent c.args.id).gather c.args.gather)) c.self.view_is ∙ c.requires.due) c.job.ensures.lent c.job.ensures.err refl (subst IsSteady (sym c.self.view_is) c.requires.steady)
+
+pub returns-clause-here : goal.returns-clause-here
+returns-clause-here c =
+    let found = found_agent c.self.inside.agents.items c.deref.result.now c.args.id c.in-Some.at c.index_mut.result.now c.deref.ensures.value c.in-Some.ensures.place c.in-Some.ensures.within c.index_mut.ensures.value in
+    here_acted (the_view c.self.inside) c.args.self.now _ c.in-Some.at c.index_mut.result.now c.job.new.self c.self.view_is found.1 (job_id c.job.result c.args.gather c.index_mut.result.now c.job.new.self c.job.ensures.lent c.job.ensures.err) refl
