@@ -8,6 +8,8 @@ pub mod Changes
 pub mod ClientPosts
 pub mod Committing
 pub mod DecidedAt
+pub mod Delivered
+pub mod DueGathers
 pub mod Following
 pub mod Forgotten
 pub mod Giving

@@ -5,6 +5,7 @@
 mod agents;
 mod arrivals;
 mod copies;
+mod deliveries;
 mod forgetting;
 mod gathers;
 mod moves;
