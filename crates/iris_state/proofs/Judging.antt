@@ -28,7 +28,7 @@ use Rattle.iris_state.proofs.MayHere.{IsUnservedBy}
 -- ---- places
 
 -- at the place that was found there is an agent
-place_there : (hs : List Holdings) (id : AgentId) (place : ℕ) → place_in id hs ≡ Some place → (h : Holdings) × (slice_get hs place ≡ Some h)
+pub place_there : (hs : List Holdings) (id : AgentId) (place : ℕ) → place_in id hs ≡ Some place → (h : Holdings) × (slice_get hs place ≡ Some h)
 place_there [] id place is = absurd (cc)
 place_there (x ∷ hs) id place is = either (λ m at. place_there hs id m at) (has_id id x) place is
   where

@@ -16,5 +16,6 @@ pub mod Giving
 pub mod Judging
 pub mod MayHere
 pub mod Naming
+pub mod NextDue
 pub mod QuietEvents
 pub mod SteadyCities

@@ -1,8 +1,9 @@
 -- What a delivery is: an arrival, and then the decisions of the gathers that are due.
-use Rattle.std.specs.Prelude.{◌≡◌, ◌⊎◌, ℕ, ◌<◌, Bool, true, false, List, [], ◌∷◌, ◌++◌}
+use Rattle.std.specs.Prelude.{◌≡◌, ◌⊎◌, ℕ, ◌<◌, Bool, true, false, List, [], ◌∷◌, ◌++◌, Option, Some, None, IfSome}
 use Rattle.iris_json.specs.declared.out.Out.{Out}
-use Rattle.iris_gather.specs.OpenGathers.{is_due}
+use Rattle.iris_gather.specs.OpenGathers.{gather_at, is_due}
 use Rattle.iris_agent.specs.Outside.{Seen, KeptNothing}
+use Rattle.iris_agent.specs.Tables.{Holdings}
 use Rattle.iris_protocol.specs.Table.{AgentId}
 use Rattle.iris_runs.specs.Worlds.{World}
 use Rattle.iris_state.specs.Events.{HasArrivedAt, HasDecidedAt, IsInterrupted}
@@ -19,6 +20,21 @@ pub record IsLowestDue (w : World) (id : AgentId) (number : ℕ) : Type 0 where
 -- no gather of that agent is due
 abbrev pub NoneDue : World → AgentId → Type 0
 NoneDue w id = (number : ℕ) → is_due_at w id number ≡ false
+
+-- That is the lowest number of a gather that is due at any agent, and the gather is that agent's.
+pub record IsNextDue (w : World) (id : AgentId) (number : ℕ) : Type 0 where
+  pub due : is_due_at w id number ≡ true
+  pub lowest : (other : AgentId) (lower : ℕ) → lower < number → is_due_at w other lower ≡ false
+
+-- whether a number is below that of a gather, if there is one; each is where there is none
+abbrev pub IsBelow : Option (AgentId × ℕ) → ℕ → Type 0
+IsBelow None number = Unit {0}
+IsBelow (Some next) number = number < next.1
+
+-- Of a gather, if there is one, and those that are due at an agent that is the one of the lowest number.
+pub record IsLower (next : Option (AgentId × ℕ)) (h : Holdings) (result : Option (AgentId × ℕ)) : Type 0 where
+  pub one : IfSome result (λ r. (next ≡ Some r) ⊎ ((h.id ≡ r.0) × (is_due (gather_at h.gathers r.1) ≡ true)))
+  pub lowest : (number : ℕ) → IsBelow result number → IsBelow next number × (is_due (gather_at h.gathers number) ≡ false)
 
 -- The gather of that number, the lowest that is due at an agent, decided first, and then others did.
 pub record DecidesFirst (w : World) (id : AgentId) (number : ℕ) (lines : List Out) (others : World → List Out → Type 0) : Type 0 where

@@ -3,19 +3,54 @@ ghost use Rattle.std.specs.Prelude.{◌≡◌, ℕ, ◌≤◌, true, List, Some,
 ghost use Rattle.iris_json.specs.declared.out.Out.{Out};
 ghost use Rattle.iris_posts.specs.Posts.{post_at};
 ghost use Rattle.iris_agent.specs.Outside.{seen};
+ghost use Rattle.iris_protocol.specs.Table.{AgentId};
 ghost use Rattle.iris_state.specs.Agents.{is_here};
 ghost use Rattle.iris_state.specs.City.{IsSteady};
-ghost use Rattle.iris_state.specs.Deliveries.{IsLowestDue, NoneDue, HaveDecided, HasDelivered, IsCutOff};
+ghost use Rattle.iris_state.specs.Deliveries.{IsLower, IsLowestDue, IsNextDue, NoneDue, HaveDecided, HasDelivered, IsCutOff};
 ghost use Rattle.iris_state.specs.Whole.{world_of};
 
 use crate::agents::place_of;
 use crate::state::State;
+use iris_agent::Agent;
 use iris_json::Out;
 use iris_keeper::Keeper;
 use iris_tree::{AgentId, Mem};
 use std::alloc::AllocError;
 
+// The gather of the lowest number, of that one and those that are due at an agent.
+fn lower(next: Option<(AgentId, u64)>, agent: &Agent) -> Option<(AgentId, u64)>
+    ensures { IsLower next agent.now result }
+{
+    let Some(number) = agent.due() else {
+        return next;
+    };
+    let Some(one) = next else {
+        return Some((agent.id(), number));
+    };
+    if one.1 <= number {
+        Some(one)
+    } else {
+        Some((agent.id(), number))
+    }
+}
+
 impl State {
+    /// The gather of the lowest number that is due at any agent, with that agent; none exactly where no gather
+    /// is due.
+    pub fn next_due(&self) -> Option<(AgentId, u64)>
+        requires { IsSteady self.now }
+        ensures some { IfSome result (λ next. IsNextDue (world_of self.now) next.0 next.1) }
+        ensures none { result ≡ None → (id : AgentId) → NoneDue (world_of self.now) id }
+    {
+        let mut next = None;
+        let mut at = 0;
+        while at < self.agents.len() {
+            next = lower(next, &self.agents[at]);
+            at += 1;
+        }
+        next
+    }
+
     /// The lowest number of a gather of that agent that is due; none exactly where none is.
     pub fn lowest_due(&self, id: AgentId) -> Option<u64>
         requires { is_here self.now.agents id ≡ true }
